@@ -1,0 +1,6 @@
+pub mod Map
+pub mod Word
+pub mod Value
+pub mod Operation
+pub mod Code
+pub mod Equal

@@ -1,0 +1,1 @@
+// The plain machine: definitions alone, in specs/.

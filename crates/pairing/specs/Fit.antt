@@ -1,0 +1,52 @@
+-- What an accepted function satisfies, as far as its runs need it.
+use Prim.Native.Nat.{ℕ, _<_, _≤_}
+use mathlib.Core.Path.{_≡_}
+use mathlib.Core.Bool.{Bool, true, false}
+use mathlib.Core.List.{List, [], _∷_}
+use lib.Dec.{T}
+use Rattle.arith.specs.Operation.{Expr}
+use Rattle.record.specs.declared.NameIx.{NameIx}
+use Rattle.record.specs.Record.{Instr, Block, Function, names-of, type-in}
+use Rattle.record.specs.Shape.{shape-of}
+use Rattle.record.specs.Form.{Form, pure, new, effect, return, nop, jump, branch, form}
+use Rattle.numbering.specs.Number.{reads}
+use Rattle.pairing.specs.Joint.{Typed}
+
+abbrev pub All : {A : Type 0} → (A → Type 0) → List A → Type 0
+All P [] = Unit {0}
+All P (x ∷ xs) = P x × All P xs
+
+-- whether it has a dest
+unfoldable pub writes : Form → Bool
+writes (pure e) = true
+writes (new xs) = true
+writes (effect xs) = false
+writes (return xs) = false
+writes nop = false
+writes (jump b) = false
+writes (branch a b c) = false
+
+-- jmp, br and ret
+unfoldable pub terminates : Form → Bool
+terminates (pure e) = false
+terminates (new xs) = false
+terminates (effect xs) = false
+terminates (return xs) = true
+terminates nop = false
+terminates (jump b) = true
+terminates (branch a b c) = true
+
+-- N: how many names there are; t: the type of each
+pub record FitInstr (N : ℕ) (t : NameIx → ℕ) (i : Instr) : Type 0 where
+  pub args : All (λ x. x .0 < N) (reads (form t i))
+  pub dest : T (writes (form t i)) → i .dest .0 < N
+  pub shape : shape-of (i .code) .dest ≡ writes (form t i)
+  pub typed : (e : Expr NameIx) → form t i ≡ pure e → Typed t e (t (i .dest))
+
+abbrev pub FitBody : ℕ → (NameIx → ℕ) → List Instr → Type 0
+FitBody N t [] = Unit {0}
+FitBody N t (i ∷ is) = FitInstr N t i × ((T (terminates (form t i)) → is ≡ []) × FitBody N t is)
+
+pub record FitFunction (f : Function) : Type 0 where
+  pub few : f .args ≤ names-of f
+  pub blocks : All (λ (b : Block Instr). FitBody (names-of f) (type-in (f .types)) (b .body)) (f .blocks)

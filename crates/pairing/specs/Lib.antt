@@ -1,0 +1,3 @@
+pub mod Demand
+pub mod Joint
+pub mod Fit

@@ -1,0 +1,1 @@
+// Pairs of an input and its rewriting: definitions and theorems alone, in specs/ and proofs/.

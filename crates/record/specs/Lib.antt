@@ -1,0 +1,11 @@
+pub mod Record
+pub mod Shape
+pub mod Text
+pub mod Reader
+pub mod Tests
+pub mod Read
+pub mod Typing
+pub mod Write
+pub mod Form
+pub mod Answer
+pub mod Hex

@@ -1,0 +1,115 @@
+"""Compares the unchanged Rust with stored answers, or with the model.
+
+compare.py                     the Rust against vectors/*.txt
+compare.py --random N [--seed S]   the Rust against model.py on N random records
+compare.py --exhaustive        the same on all small records of exhaustive.py
+The last line is `N passed, M failed`.
+"""
+
+import argparse
+import subprocess
+import sys
+from collections import Counter
+from pathlib import Path
+
+from check import check
+from exhaustive import operations, short_blocks
+from generate import records
+from model import Model, rewrite
+from record import from_bytes, to_bytes, to_text
+
+TOP = Path(__file__).resolve().parents[2]
+ORACLE = TOP / "tools/oracle"
+PART = 5000
+
+
+def build():
+    subprocess.run(["cargo", "build", "--release", "--offline", "--quiet"],
+                   cwd=ORACLE, check=True)
+
+
+def oracle(inputs):
+    """The Rust's answers to records in hex: a rewriting in hex or `panic`."""
+    run = subprocess.run([ORACLE / "target/release/oracle"], check=True, text=True,
+                         input="".join(i + "\n" for i in inputs), stdout=subprocess.PIPE)
+    answers = [line.split(" ") for line in run.stdout.splitlines()]
+    assert [a[0] for a in answers] == list(inputs)
+    return [a[1] for a in answers]
+
+
+def stored():
+    """Pairs of a label and whether it agrees. A refused record is not given
+    to the Rust, a division on which it panics stays by document 01; both are
+    compared with the model alone, as all others are too."""
+    cases = []
+    for line in (TOP / "vectors/worked.txt").read_text().splitlines():
+        cases.append(line.split(" ", 2))
+    for n, line in enumerate((TOP / "vectors/rewritings.txt").read_text().splitlines(), 1):
+        cases.append(["rewritings.txt:%d" % n, *line.split(" ", 1)])
+    asked = [c for c in cases if not c[2].startswith("refused")]
+    answers = dict(zip((c[0] for c in asked), oracle([c[1] for c in asked])))
+    for label, record, out in cases:
+        by_model = rewrite(bytes.fromhex(record))
+        agree = out == (by_model if isinstance(by_model, str) else by_model.hex())
+        if label in answers:
+            agree = agree and answers[label] == ("panic" if label == "C7" else out)
+        yield label, agree
+
+
+def parts(items):
+    part = []
+    for item in items:
+        part.append(item)
+        if len(part) == PART:
+            yield part
+            part = []
+    yield part
+
+
+def against_model(items):
+    """Counts of agreeing and differing records; shows the smallest that
+    differs. The Rust is to panic exactly where a constant division stays."""
+    counts, smallest = Counter(), None
+    for part in parts(items):
+        for record, answer in zip(part, oracle([r.hex() for r in part])):
+            model = Model(from_bytes(record))
+            expected = to_bytes(model.rewrite()).hex()
+            if check(record) is None and answer == ("panic" if model.stuck else expected):
+                counts["panic" if model.stuck else "same"] += 1
+                continue
+            counts["failed"] += 1
+            if smallest is None or len(record) < len(smallest[0]):
+                smallest = record, expected, answer
+    if smallest:
+        print(smallest[0].hex(), to_text(from_bytes(smallest[0])), sep="\n")
+        print("model", smallest[1], "Rust ", smallest[2], sep="\n")
+    print("%d rewritings the same, %d with a panic where the division stays"
+          % (counts["same"], counts["panic"]))
+    return counts["same"] + counts["panic"], counts["failed"]
+
+
+def main():
+    p = argparse.ArgumentParser()
+    p.add_argument("--random", type=int)
+    p.add_argument("--seed", type=int, default=1)
+    p.add_argument("--exhaustive", action="store_true")
+    a = p.parse_args()
+    build()
+    if a.random is not None:
+        passed, failed = against_model(records(a.seed, a.random))
+    elif a.exhaustive:
+        passed, failed = map(sum, zip(against_model(operations()),
+                                      against_model(short_blocks())))
+    else:
+        results = list(stored())
+        for label, agree in results:
+            if not agree:
+                print(label, "differs")
+        passed = sum(agree for _, agree in results)
+        failed = len(results) - passed
+    print("%d passed, %d failed" % (passed, failed))
+    sys.exit(failed != 0)
+
+
+if __name__ == "__main__":
+    main()
