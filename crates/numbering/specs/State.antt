@@ -34,10 +34,13 @@ abbrev pub nobody : NameIx
 nobody = nm 65535
 
 -- "Per block, arguments get 0 to A-1 and are their own homes." (`initialize_lvn`, `prototype`)
+abbrev pub start-env : ℕ → NameIx → Option ValNum
+start-env A x = cond (ltb (x .0) A) (some (vn (x .0))) none
+
 unfoldable pub start : ℕ → ℕ → State
 start A k =
     record {
-      env = λ x. cond (ltb (x .0) A) (some (vn (x .0))) none;
+      env = start-env A;
       locs = λ v. cond (ltb (v .0) A) (nm (v .0)) nobody;
       vals = λ v. none;
       next = A;

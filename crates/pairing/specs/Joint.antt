@@ -3,10 +3,10 @@
 use Prim.Native.Nat.{ℕ, suc, _<_}
 use mathlib.Core.Path.{_≡_}
 use mathlib.Core.Logic.{_≢_}
-use mathlib.Core.Bool.{Bool, true, false, cond}
+use mathlib.Core.Bool.{Bool, true, false}
 use mathlib.Core.List.{List, [], _∷_}
 use mathlib.Core.Option.{Option, none, some}
-use lib.Dec.{T, ltb}
+use lib.Dec.{T}
 use Rattle.arith.specs.declared.One.{One}
 use Rattle.arith.specs.declared.One.the-variants.{Not, Id}
 use Rattle.arith.specs.declared.Two.{Two}
@@ -18,7 +18,7 @@ use Rattle.record.specs.declared.NameIx.{NameIx}
 use Rattle.record.specs.Record.{NameIx-discrete, Instr, Block}
 use Rattle.record.specs.Form.{Form, pure, new, effect, return, nop, jump, branch, form}
 use Rattle.numbering.specs.declared.ValNum.{ValNum}
-use Rattle.numbering.specs.State.{vn, ValNum-discrete}
+use Rattle.numbering.specs.State.{vn, ValNum-discrete, start-env}
 use Rattle.numbering.specs.Number.{reads, is-save, count-saves}
 use Rattle.machine.specs.Machine.{Context}
 
@@ -256,9 +256,7 @@ pub data Paired (Γ : Setting) : Joint → List Instr → List Instr → Type 0 
 -- ---- whole functions
 -- "Per block, arguments get 0 to A-1": on both sides
 abbrev pub start-joint : ℕ → Joint
-start-joint A =
-    let env = λ (x : NameIx). cond (ltb (x .0) A) (some (vn (x .0))) none in
-    record { vals = λ v. none; next = A; env₁ = env; env₂ = env }
+start-joint A = record { vals = λ v. none; next = A; env₁ = start-env A; env₂ = start-env A }
 
 -- block by block, and each saves field of the candidate counts its saves
 pub data PairedBlocks (Γ : Setting) : List (Block Instr) → List (Block Instr) → Type 0 where
