@@ -9,3 +9,4 @@ pub mod Write
 pub mod Form
 pub mod Answer
 pub mod Hex
+pub mod Good
