@@ -4,3 +4,4 @@ pub mod Value
 pub mod Operation
 pub mod Code
 pub mod Equal
+pub mod Examples

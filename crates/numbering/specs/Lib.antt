@@ -6,3 +6,5 @@ pub mod Rewrite
 pub mod NameText
 pub mod Program
 pub mod Examples
+pub mod Folds
+pub mod Entries

@@ -10,3 +10,7 @@ pub mod Form
 pub mod Answer
 pub mod Hex
 pub mod Good
+pub mod Refusals
+pub mod Tables
+pub mod Samples
+pub mod Forms

@@ -1,0 +1,132 @@
+-- Records of every kind of fault with the refusal of each, and the accepted ones next to them, computed over the definitions.
+use Prim.Native.Nat.{ℕ}
+use Prim.Native.String.{String}
+use mathlib.Core.Path.{_≡_, refl}
+use mathlib.Core.List.{List, [], _∷_, _++_, map}
+use lib.ListN.{length}
+use Rattle.arith.specs.Value.{typeOf, inRange}
+use Rattle.record.specs.Answer.{Returned, number, check-answer, checked, literal-of}
+use Rattle.record.specs.Hex.{digit-value, bytes-from, hex}
+use Rattle.record.specs.Read.{name-index, literal, arguments, operands, instr, block, name, names, length-field, end, contents, read}
+use Rattle.record.specs.Reader.{give, _>>=_, here, field, text, if-there, times}
+use Rattle.record.specs.Record.{type-in, id-bytes}
+use Rattle.record.specs.Shape.{shape-of}
+use Rattle.record.specs.Tests.{any, at-most, below, length-test, version-test, names-test, type-test, text-length-test, text-test, saves-test, code-test, count-test, literal-test}
+use Rattle.record.specs.Text.{all-text, well-formed, undigited, reserved, same-bytes, among}
+use Rattle.record.specs.Typing.{obeys, well-typed, body-types, block-types, accept}
+use Rattle.record.specs.Write.{be, join, when, index-bytes, literal-bytes, argument-bytes, operand-bytes, instr-bytes, block-bytes, name-bytes, content-bytes, bytes}
+
+-- the answer of check, and its number and offset
+abbrev pub accepted : Returned
+accepted = record { number = 0; values = [] }
+
+abbrev pub refused : ℕ → ℕ → Returned
+refused k o = record { number = k; values = o ∷ [] }
+
+-- what check says of a record, of which all that follows L is written
+abbrev pub says : List ℕ → Returned
+says s = check-answer (checked s)
+
+abbrev pub with-length : List ℕ → List ℕ
+with-length s = be 4 (length s) ++ s
+
+abbrev pub rows : List (String × Returned)
+rows =
+    -- L right and nothing behind it
+    ("", refused 1 4) ∷
+    -- version 2
+    ("02", refused 2 4) ∷
+    ("01", refused 1 5) ∷
+    -- A 17, refused before N is looked for
+    ("01 11", refused 3 5) ∷
+    -- N with one byte left
+    ("01 00 00", refused 1 6) ∷
+    ("01 00 0101", refused 3 6) ∷
+    -- A above N, at N
+    ("01 01 0000", refused 3 6) ∷
+    ("01 00 0001", refused 1 8) ∷
+    ("01 00 0001 04", refused 3 8) ∷
+    ("01 00 0001 F3", refused 1 9) ∷
+    ("01 00 0001 00 00", refused 3 9) ∷
+    ("01 00 0001 00 21", refused 3 9) ∷
+    -- a text past the end, at its first byte
+    ("01 00 0001 00 02 61", refused 1 10) ∷
+    ("01 00 0001 00 02 3161", refused 4 10) ∷
+    ("01 00 0001 00 02 6120", refused 4 10) ∷
+    ("01 00 0002 00 01 61 02 01 61", refused 4 13) ∷
+    ("01 00 0000", refused 1 8) ∷
+    ("01 00 0000 0041", refused 3 8) ∷
+    ("01 00 0000 0000", accepted) ∷
+    -- a byte left over
+    ("01 00 0000 0000 00", refused 1 10) ∷
+    ("01 00 0000 0001 0101 0000", refused 3 10) ∷
+    ("01 00 0000 0001 0000", refused 1 12) ∷
+    ("01 00 0000 0001 0000 0001", refused 3 12) ∷
+    ("01 00 0000 0001 0001 0000 000000", refused 1 14) ∷
+    ("01 00 0000 0001 0001 0000 00000007", refused 1 18) ∷
+    -- phi is unknown
+    ("01 00 0000 0001 0001 0000 00000007 27", refused 5 18) ∷
+    ("01 00 0000 0001 0001 0000 00000007 45", refused 1 19) ∷
+    ("01 00 0000 0001 0001 0000 00000007 45 01", refused 3 19) ∷
+    ("01 00 0000 0001 0001 0000 00000007 45 00", accepted) ∷
+    -- jmp before the last place, before its argument count is looked for
+    ("01 00 0000 0001 0002 0000 00000007 40", refused 8 18) ∷
+    ("01 00 0000 0001 0001 0000 00000007 40 00 0001", refused 6 20) ∷
+    ("01 00 0000 0001 0001 0000 00000007 40 00 0000", accepted) ∷
+    ("01 00 0000 0001 0001 0000 00000007 42 02", refused 3 19) ∷
+    ("01 00 0000 0001 0001 0000 00000007 44 09", refused 3 19) ∷
+    ("01 00 0000 0001 0001 0000 00000007 43 00 FFFF", accepted) ∷
+    ("01 00 0001 00 01 78 0001 0001 000000000007 00 0001", refused 6 22) ∷
+    ("01 00 0001 00 01 78 0001 0001 000000000007 00 0000 04", refused 3 24) ∷
+    ("01 00 0001 00 01 78 0001 0001 000000000007 00 0000 00 00", refused 1 25) ∷
+    ("01 00 0001 00 01 78 0001 0001 000000000007 00 0000 01 0000000000000002", refused 3 25) ∷
+    ("01 00 0001 00 01 78 0001 0001 000000000007 00 0000 03 000000000000D800", refused 3 25) ∷
+    ("01 00 0001 00 01 78 0001 0001 000000000007 00 0000 03 0000000000110000", refused 3 25) ∷
+    ("01 00 0001 00 01 78 0001 0001 000000000007 00 0000 020000000000000000", refused 7 17) ∷
+    ("01 00 0001 00 01 78 0001 0001 000000000007 00 0000 02000000000000000000", refused 1 33) ∷
+    ("01 00 0001 00 01 78 0001 0001 000000000007 00 0000 000000000000000000", accepted) ∷
+    ("01 00 0001 00 01 78 0001 0001 000000000007 01 0000 02 0000 0001", refused 6 27) ∷
+    ("01 00 0001 00 01 78 0001 0001 000000000007 05 0000 02 0000 0000", refused 7 17) ∷
+    ("01 00 0001 00 01 78 0001 0001 000000000007 41 01 0000 0000 0001", refused 6 27) ∷
+    ("01 00 0001 00 01 78 0001 0001 000000000007 41 01 0000 0000 0000", refused 7 17) ∷
+    ("01 00 0002 10 01 70 00 01 78 0001 0001 000000000007 26 0001 01 0000", accepted) ∷
+    ("01 00 0002 10 01 70 00 01 78 0001 0001 000000000007 26 0001 01 0001", refused 7 20) ∷
+    ("01 00 0002 10 01 70 00 01 78 0001 0001 000000000007 0E 0000 02 0001 0000", refused 7 20) ∷
+    ("01 00 0002 10 01 70 00 01 78 0001 0001 000000000007 0E 0000 02 0000 0001", accepted) ∷
+    ("01 00 0002 10 01 70 00 01 78 0001 0001 000000000007 25 0000 01 0001", accepted) ∷
+    ("01 00 0002 10 01 70 00 01 78 0001 0001 000000000007 25 0001 01 0001", refused 7 20) ∷
+    ("01 00 0002 10 01 70 00 01 78 0001 0001 000000000007 46 02 0000 0001", accepted) ∷
+    ("01 00 0002 10 01 70 00 01 78 0001 0001 000000000007 46 02 0000 0000", refused 7 20) ∷
+    ("01 00 0002 10 01 70 00 01 78 0001 0001 000000000007 47 01 0001", refused 7 20) ∷
+    ("01 00 0002 10 01 70 00 01 78 0001 0001 000000000007 00 0000 000000000000000000", refused 7 20) ∷
+    -- the text _x_lvn0
+    ("01 00 0001 00 07 5F785F6C766E30 0000", refused 4 10) ∷
+    -- the text ___lvn0
+    ("01 00 0001 00 07 5F5F5F6C766E30 0000", refused 4 10) ∷
+    -- the text _x_lvn00
+    ("01 00 0001 00 08 5F785F6C766E3030 0000", refused 4 10) ∷
+    -- the text _lvn0_lvn0
+    ("01 00 0001 00 0A 5F6C766E305F6C766E30 0000", refused 4 10) ∷
+    -- the text __lvn0
+    ("01 00 0001 00 06 5F5F6C766E30 0000", accepted) ∷
+    -- the text _lvn0
+    ("01 00 0001 00 05 5F6C766E30 0000", accepted) ∷
+    -- the text x_lvn0
+    ("01 00 0001 00 06 785F6C766E30 0000", accepted) ∷
+    -- the text _x_lvn
+    ("01 00 0001 00 06 5F785F6C766E 0000", accepted) ∷
+    -- the text .
+    ("01 00 0001 00 01 2E 0000", accepted) ∷
+    ("01 00 0001 00 20 7878787878787878787878787878787878787878787878787878787878787878 0000", accepted) ∷
+    []
+
+pub refusals : map (λ r. says (with-length (hex (r .0)))) rows ≡ map (λ r. r .1) rows
+unfolding typeOf inRange number check-answer checked literal-of digit-value bytes-from hex name-index literal arguments operands instr block name names length-field end contents read give _>>=_ here field text if-there times type-in id-bytes shape-of any at-most below length-test version-test names-test type-test text-length-test text-test saves-test code-test count-test literal-test all-text well-formed undigited reserved same-bytes among obeys well-typed body-types block-types accept be join when index-bytes literal-bytes argument-bytes operand-bytes instr-bytes block-bytes name-bytes content-bytes bytes
+refusals = refl
+
+-- fewer than four bytes, and L that is not the rest
+pub first-refusals :
+    says [] ∷ says (hex "000000") ∷ says (hex "00000007 01 00 0000 0000") ∷ [] ≡
+    refused 1 0 ∷ refused 1 0 ∷ refused 1 0 ∷ []
+unfolding typeOf inRange number check-answer checked literal-of digit-value bytes-from hex name-index literal arguments operands instr block name names length-field end contents read give _>>=_ here field text if-there times type-in id-bytes shape-of any at-most below length-test version-test names-test type-test text-length-test text-test saves-test code-test count-test literal-test all-text well-formed undigited reserved same-bytes among obeys well-typed body-types block-types accept be join when index-bytes literal-bytes argument-bytes operand-bytes instr-bytes block-bytes name-bytes content-bytes bytes
+first-refusals = refl
