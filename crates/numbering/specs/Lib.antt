@@ -8,3 +8,4 @@ pub mod Program
 pub mod Examples
 pub mod Folds
 pub mod Entries
+pub mod View

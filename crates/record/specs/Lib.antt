@@ -14,3 +14,4 @@ pub mod Refusals
 pub mod Tables
 pub mod Samples
 pub mod Forms
+pub mod View
