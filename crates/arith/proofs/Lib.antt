@@ -1,1 +1,4 @@
 pub mod Map
+pub mod Words
+pub mod Operation
+pub mod Signed

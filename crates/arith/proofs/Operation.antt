@@ -1,0 +1,125 @@
+-- Laws of the operations on values: what a result that is not unset tells of the operands, and which operators commute.
+use Prim.Native.Nat.{ℕ}
+use mathlib.Core.Path.{_≡_, refl, sym, ap, subst, subst₂}
+use mathlib.Core.Logic.{_≢_}
+use mathlib.Core.Bool.{Bool, true, false, and-comm, or-comm}
+use mathlib.Core.Option.{Option, none, some}
+use lib.Dec.{eqb}
+use borrow.Author.Tests.{eqb-true, eqb-false, eq-eqb, ne-eqb}
+use Rattle.arith.specs.declared.Two.{Two}
+use Rattle.arith.specs.declared.Two.the-variants.{Add, Mul, Eq, And, Or, PtrAdd}
+use Rattle.arith.specs.Value.{Val, int, float, literal, char, bool, pointer}
+use Rattle.arith.specs.Operation.{Result, ok, unset, asInt, asBool, ints, bools, with-one, with-both, shift, apply2}
+use Rattle.arith.proofs.Words.{addW-comm, mulW-comm}
+
+-- ---- a result that is not unset: all operands are set
+pub with-one-set : {A : Type 0} (x : Option A) (f : A → Result) → with-one x f ≢ unset → (a : A) × (x ≡ some a)
+unfolding with-one
+with-one-set none f h = absurd (h refl)
+with-one-set (some a) f h = (a, refl)
+
+pub with-both-set :
+    {A B : Type 0} (x : Option A) (y : Option B) (f : A → B → Result) →
+    with-both x y f ≢ unset →
+    (a : A) × (b : B) × (x ≡ some a) × (y ≡ some b)
+unfolding with-both
+with-both-set none y f h = absurd (h refl)
+with-both-set (some a) none f h = absurd (h refl)
+with-both-set (some a) (some b) f h = (a, b, refl, refl)
+
+-- ---- and of the operator's type: P of two operands holds if it holds of two such
+asInt-is : (v : Val) (w : ℕ) → asInt v ≡ some w → int w ≡ v
+unfolding asInt
+asInt-is (int n) w e = cc
+asInt-is (float n) w e = cc
+asInt-is (literal n) w e = cc
+asInt-is (char n) w e = cc
+asInt-is (bool b) w e = cc
+asInt-is (pointer t b o) w e = cc
+
+asBool-is : (v : Val) (c : Bool) → asBool v ≡ some c → bool c ≡ v
+unfolding asBool
+asBool-is (int n) c e = cc
+asBool-is (float n) c e = cc
+asBool-is (literal n) c e = cc
+asBool-is (char n) c e = cc
+asBool-is (bool b) c e = cc
+asBool-is (pointer t b o) c e = cc
+
+pub ints-set :
+    (u v : Val) (f : ℕ → ℕ → Result) (P : Val → Val → Type 0) →
+    ((m n : ℕ) → P (int m) (int n)) →
+    ints u v f ≢ unset →
+    P u v
+ints-set u v f P g h =
+    let (m, n, p, q) = with-both-set (asInt u) (asInt v) f h in
+    subst₂ P (asInt-is u m p) (asInt-is v n q) (g m n)
+
+pub bools-set :
+    (u v : Val) (f : Bool → Bool → Result) (P : Val → Val → Type 0) →
+    ((b c : Bool) → P (bool b) (bool c)) →
+    bools u v f ≢ unset →
+    P u v
+bools-set u v f P g h =
+    let (b, c, p, q) = with-both-set (asBool u) (asBool v) f h in
+    subst₂ P (asBool-is u b p) (asBool-is v c q) (g b c)
+
+shift-set : (u : Val) (k : ℕ) (P : Val → Type 0) → ((t b o : ℕ) → P (pointer t b o)) → shift u k ≢ unset → P u
+unfolding shift
+shift-set (int w) k P g h = absurd (h refl)
+shift-set (float b) k P g h = absurd (h refl)
+shift-set (literal w) k P g h = absurd (h refl)
+shift-set (char c) k P g h = absurd (h refl)
+shift-set (bool b) k P g h = absurd (h refl)
+shift-set (pointer t b o) k P g h = g t b o
+
+pub pointer-set :
+    (u v : Val) (P : Val → Val → Type 0) →
+    ((t b o k : ℕ) → P (pointer t b o) (int k)) →
+    apply2 PtrAdd u v ≢ unset →
+    P u v
+unfolding apply2 with-one
+pointer-set u v P g h =
+    let (k, p) = with-one-set (asInt v) (shift u) h in
+    subst (P u) (asInt-is v k p) (shift-set u k (λ x. P x (int k)) (λ t b o. g t b o k) (λ e. h (rw p e)))
+
+-- ---- operators that commute
+pub with-both-comm :
+    {A : Type 0} (x y : Option A) (f : A → A → Result) →
+    ((a b : A) → f a b ≡ f b a) →
+    with-both x y f ≡ with-both y x f
+unfolding with-both
+with-both-comm none none f h = refl
+with-both-comm none (some b) f h = refl
+with-both-comm (some a) none f h = refl
+with-both-comm (some a) (some b) f h = h a b
+
+abbrev pub Commutes : Two → Type 0
+Commutes o = (x y : Val) → apply2 o x y ≡ apply2 o y x
+
+pub add-commutes : Commutes Add
+unfolding apply2
+add-commutes x y = with-both-comm (asInt x) (asInt y) _ (λ a b. ap (λ n. ok (int n)) (addW-comm a b))
+
+pub mul-commutes : Commutes Mul
+unfolding apply2
+mul-commutes x y = with-both-comm (asInt x) (asInt y) _ (λ a b. ap (λ n. ok (int n)) (mulW-comm a b))
+
+pub eqb-comm : (a b : ℕ) → eqb a b ≡ eqb b a
+eqb-comm a b = go (eqb a b) refl
+  where
+    go : (c : Bool) → eqb a b ≡ c → c ≡ eqb b a
+    go true e = sym (eq-eqb b a (sym (eqb-true a b e)))
+    go false e = sym (ne-eqb b a (λ p. eqb-false a b e (sym p)))
+
+pub eq-commutes : Commutes Eq
+unfolding apply2
+eq-commutes x y = with-both-comm (asInt x) (asInt y) _ (λ a b. ap (λ c. ok (bool c)) (eqb-comm a b))
+
+pub and-commutes : Commutes And
+unfolding apply2
+and-commutes x y = with-both-comm (asBool x) (asBool y) _ (λ a b. ap (λ c. ok (bool c)) (and-comm a b))
+
+pub or-commutes : Commutes Or
+unfolding apply2
+or-commutes x y = with-both-comm (asBool x) (asBool y) _ (λ a b. ap (λ c. ok (bool c)) (or-comm a b))

@@ -1,0 +1,134 @@
+-- An expression of typed names has a value of the destination's type, where it has one. Rests on the range of the results of words.
+use Prim.Native.Nat.{ℕ, _<_}
+use mathlib.Core.Path.{_≡_, refl, subst}
+use mathlib.Core.Bool.{Bool, true, false, not, cond, _&&_}
+use mathlib.Core.Option.{Option, none, some}
+use lib.Dec.{T, ltb, eqb, lt→ltb}
+use Rattle.arith.specs.declared.One.the-variants.{Not, Id}
+use Rattle.arith.specs.declared.Two.{Two}
+use Rattle.arith.specs.declared.Two.the-variants.{Add, Sub, Mul, Div, Eq, Lt, Gt, Le, Ge, And, Or, PtrAdd}
+use Rattle.arith.specs.Word.{W, addW, subW, mulW, divW, least, minus-one}
+use Rattle.arith.specs.Value.{tint, tbool, is-pointer, Val, int, float, literal, char, bool, pointer, typeOf, inRange, HasType}
+use Rattle.arith.specs.Operation.{Result, ok, stops, unset, by-zero, overflow, asInt, asBool, ints, bools, with-one, with-both, divide, shift, apply1, apply2, Expr, constant, one, two, eval}
+use Rattle.arith.proofs.Words.{addW-word, subW-word, mulW-word, divW-word}
+use Rattle.record.specs.declared.NameIx.{NameIx}
+use Rattle.numbering.specs.Number.{operands}
+use Rattle.pairing.specs.Joint.{Takes, Typed, Elem, first}
+
+-- ---- what a result has where it is a value
+-- P of the value, if there is one
+abbrev pub Yields : (Val → Type 0) → Result → Type 0
+Yields P (ok v) = P v
+Yields P (stops c) = Unit {0}
+Yields P unset = Unit {0}
+
+pub yields-at : (P : Val → Type 0) (r : Result) (v : Val) → Yields P r → r ≡ ok v → P v
+yields-at P r v h e = subst (Yields P) e h
+
+with-one-yields :
+    {A : Type 0} (P : Val → Type 0) (x : Option A) (f : A → Result) →
+    ((a : A) → x ≡ some a → Yields P (f a)) →
+    Yields P (with-one x f)
+unfolding with-one
+with-one-yields P none f h = tt
+with-one-yields P (some a) f h = h a refl
+
+with-both-yields :
+    {A B : Type 0} (P : Val → Type 0) (x : Option A) (y : Option B) (f : A → B → Result) →
+    ((a : A) (b : B) → x ≡ some a → y ≡ some b → Yields P (f a b)) →
+    Yields P (with-both x y f)
+unfolding with-both
+with-both-yields P none y f h = tt
+with-both-yields P (some a) none f h = tt
+with-both-yields P (some a) (some b) f h = h a b refl refl
+
+-- ---- values of a type
+int-typed : (w : ℕ) → w < W → HasType tint (int w)
+unfolding typeOf inRange
+int-typed w h = lt→ltb w W h
+
+bool-typed : (b : Bool) → HasType tbool (bool b)
+unfolding typeOf inRange
+bool-typed b = tt
+
+both : (a b c : Bool) → T (a && b) → (T b → T c) → T (a && c)
+both true b c h f = f h
+both false b c h f = h
+
+-- the offset of a pointer, changed to another word
+moved : (s t b o k : ℕ) → k < W → HasType s (pointer t b o) → HasType s (pointer t b k)
+unfolding typeOf inRange
+moved s t b o k h p =
+    both (eqb t s) (is-pointer t && (ltb b W && ltb o W)) (is-pointer t && (ltb b W && ltb k W)) p
+    (λ q. both (is-pointer t) (ltb b W && ltb o W) (ltb b W && ltb k W) q
+    (λ r. both (ltb b W) (ltb o W) (ltb k W) r (λ _. lt→ltb k W h)))
+
+-- ---- the operations
+divide-typed : (a b : ℕ) → Yields (HasType tint) (divide a b)
+unfolding divide
+divide-typed a b = go (eqb b 0) (eqb a least && eqb b minus-one)
+  where
+    go : (c d : Bool) → Yields (HasType tint) (cond c (stops by-zero) (cond d (stops overflow) (ok (int (divW a b)))))
+    go true d = tt
+    go false true = tt
+    go false false = int-typed (divW a b) (divW-word a b)
+
+shift-typed : (s : ℕ) (x : Val) (k : ℕ) → HasType s x → Yields (HasType s) (shift x k)
+unfolding shift
+shift-typed s (int w) k h = tt
+shift-typed s (float b) k h = tt
+shift-typed s (literal w) k h = tt
+shift-typed s (char c) k h = tt
+shift-typed s (bool b) k h = tt
+shift-typed s (pointer t b o) k h = moved s t b o (addW o k) (addW-word o k) h
+
+-- an operator on two ints or two bools, whose results have the type d
+ints-typed :
+    (d : ℕ) (x y : Val) (f : ℕ → ℕ → Result) → ((a b : ℕ) → Yields (HasType d) (f a b)) → Yields (HasType d) (ints x y f)
+ints-typed d x y f h = with-both-yields (HasType d) (asInt x) (asInt y) f (λ a b p q. h a b)
+
+bools-typed :
+    (d : ℕ) (x y : Val) (f : Bool → Bool → Result) → ((a b : Bool) → Yields (HasType d) (f a b)) → Yields (HasType d) (bools x y f)
+bools-typed d x y f h = with-both-yields (HasType d) (asBool x) (asBool y) f (λ a b p q. h a b)
+
+-- s and u: the types of the operands
+apply2-typed : (o : Two) (x y : Val) (s u d : ℕ) → Takes o s u d → HasType s x → Yields (HasType d) (apply2 o x y)
+unfolding apply2
+apply2-typed Add x y s u d g h = rw (g .2) (ints-typed tint x y _ (λ a b. int-typed (addW a b) (addW-word a b)))
+apply2-typed Sub x y s u d g h = rw (g .2) (ints-typed tint x y _ (λ a b. int-typed (subW a b) (subW-word a b)))
+apply2-typed Mul x y s u d g h = rw (g .2) (ints-typed tint x y _ (λ a b. int-typed (mulW a b) (mulW-word a b)))
+apply2-typed Div x y s u d g h = rw (g .2) (ints-typed tint x y divide divide-typed)
+apply2-typed Eq x y s u d g h = rw (g .2) (ints-typed tbool x y _ (λ a b. bool-typed _))
+apply2-typed Lt x y s u d g h = rw (g .2) (ints-typed tbool x y _ (λ a b. bool-typed _))
+apply2-typed Gt x y s u d g h = rw (g .2) (ints-typed tbool x y _ (λ a b. bool-typed _))
+apply2-typed Le x y s u d g h = rw (g .2) (ints-typed tbool x y _ (λ a b. bool-typed _))
+apply2-typed Ge x y s u d g h = rw (g .2) (ints-typed tbool x y _ (λ a b. bool-typed _))
+apply2-typed And x y s u d g h = rw (g .2) (bools-typed tbool x y _ (λ a b. bool-typed _))
+apply2-typed Or x y s u d g h = rw (g .2) (bools-typed tbool x y _ (λ a b. bool-typed _))
+apply2-typed PtrAdd x y s u d g h = rw (g .2) (with-one-yields (HasType s) (asInt y) (shift x) (λ k e. shift-typed s x k h))
+
+-- ---- expressions
+eval-yields :
+    (t : NameIx → ℕ) (σ : NameIx → Option Val) (e : Expr NameIx) (d : ℕ) →
+    Typed t e d →
+    ((x : NameIx) (v : Val) → σ x ≡ some v → Elem x (operands e) → HasType (t x) v) →
+    Yields (HasType d) (eval σ e)
+unfolding eval apply1
+eval-yields t σ (constant v) d g h = g
+eval-yields t σ (one Not a) d g h =
+    with-one-yields (HasType d) (σ a) (apply1 Not)
+    (λ x p. with-one-yields (HasType d) (asBool x) _ (λ b q. rw (g .1) (bool-typed (not b))))
+eval-yields t σ (one Id a) d g h = with-one-yields (HasType d) (σ a) (apply1 Id) (λ x p. rw g (h a x p first))
+eval-yields t σ (two o a b) d g h =
+    with-both-yields (HasType d) (σ a) (σ b) (apply2 o)
+    (λ x y p q. apply2-typed o x y (t a) (t b) d g (h a x p first))
+
+-- t: the type of each name; the names that e reads hold values of their types, those that hold one
+pub eval-typed :
+    (t : NameIx → ℕ) (σ : NameIx → Option Val) (e : Expr NameIx) (d : ℕ) →
+    Typed t e d →
+    ((x : NameIx) (v : Val) → σ x ≡ some v → Elem x (operands e) → HasType (t x) v) →
+    (v : Val) →
+    eval σ e ≡ ok v →
+    HasType d v
+eval-typed t σ e d g h v p = yields-at (HasType d) (eval σ e) v (eval-yields t σ e d g h) p
