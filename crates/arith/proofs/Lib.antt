@@ -1,4 +1,5 @@
 pub mod Map
+pub mod Found
 pub mod Words
 pub mod Operation
 pub mod Signed

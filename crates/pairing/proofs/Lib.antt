@@ -1,2 +1,4 @@
 pub mod Typing
 pub mod Simplify
+pub mod Rules
+pub mod Accepted

@@ -15,3 +15,4 @@ pub mod Tables
 pub mod Samples
 pub mod Forms
 pub mod View
+pub mod Ranged

@@ -1,0 +1,187 @@
+-- What an accepted function satisfies: names below N, destinations where the form has one, terminators last, and types.
+-- From the tests that its record passes, the ranges of its numbers, and the rules of its codes.
+use Prim.Native.Nat.{ℕ, zero, suc, _<_, _≤_, _^_}
+use mathlib.Core.Path.{_≡_, refl, sym, ap, _∙_, subst}
+use mathlib.Core.List.{List, [], _∷_}
+use mathlib.Core.Bool.{Bool, true, false, not, _&&_, _||_}
+use native.Mathlib.Omega.{arith}
+use lib.ListN.{length, getD, length-map}
+use lib.Dec.{T, eqb}
+use lib.Ieee.Bits.{is-true}
+use borrow.Author.Tests.{eqb-true}
+use Rattle.arith.specs.Operation.{Expr, constant, one, two}
+use Rattle.arith.specs.Code.{code1, code2, with-code, one-of, two-of}
+use Rattle.record.specs.declared.NameIx.{NameIx}
+use Rattle.record.specs.declared.Shape.{Shape}
+use Rattle.record.specs.declared.Limits.{Limits}
+use Rattle.record.specs.Record.{nm, Bytes, Instr, Placed, Block, Record, function, plain, type-in, arg, limits}
+use Rattle.record.specs.Shape.{shape-of, value}
+use Rattle.record.specs.Reader.{got}
+use Rattle.record.specs.Form.{Form, pure, form, value-of}
+use Rattle.record.specs.Typing.{well-typed, accept}
+use Rattle.record.specs.Good.{There, Each, IndexOk, ArgsOk, OperandsOk, InstrOk, BlockOk, RecordOk}
+use Rattle.record.specs.Ranged.{RangedInstr, RangedBlock, Ranged}
+use Rattle.record.proofs.Tests.{and-left, and-right, at-most-le, below-lt, names-args, count-few, code-known, code-last}
+use Rattle.record.proofs.Form.{FormOf, of-constant, of-one, of-two, of-new, of-jump, of-branch, of-return, of-nop, of-effect, form-of, one-shape, two-shape, all-below, at-known}
+use Rattle.record.proofs.Accepted.{read-ok}
+use Rattle.record.proofs.Ranged.{read-ranged}
+use Rattle.record.proofs.Typed.{TypedBody, TypedFunction, accept-typed}
+use Rattle.numbering.specs.Number.{reads}
+use Rattle.pairing.specs.Joint.{Typed}
+use Rattle.pairing.specs.Fit.{All, writes, terminates, FitInstr, FitBody, FitFunction}
+use Rattle.pairing.proofs.Rules.{one-typed, two-typed, fits-rule, constant-typed}
+
+-- ---- forms and shapes agree
+abbrev same : Bool → Bool → Bool
+same true b = b
+same false b = not b
+
+same-eq : (a b : Bool) → same a b ≡ true → a ≡ b
+same-eq true b e = sym e
+same-eq false true e = e
+same-eq false false e = refl
+
+-- i with another code
+abbrev recode : Instr → ℕ → Instr
+recode i c = record { id = i .id; code = c; dest = i .dest; lit = i .lit; args = i .args; callee = i .callee; blocks = i .blocks }
+
+abbrev agree : (NameIx → ℕ) → Instr → ℕ → Bool
+agree t i c = same (shape-of c .dest) (writes (form t (recode i c))) && same (shape-of c .last) (terminates (form t (recode i c)))
+
+-- computed at each code of the tables
+codes-agree : (t : NameIx → ℕ) (i : Instr) → all-below 72 (λ c. not (shape-of c .known) || agree t i c) ≡ true
+unfolding shape-of form writes terminates one-of two-of with-code code1 code2
+codes-agree t i = refl
+
+-- ---- lists
+pub all-at : {A : Type 0} (P : A → Type 0) (xs : List A) → All P xs → (k : ℕ) (d : A) → k < length xs → P (getD xs k d)
+all-at P [] h k d l = absurd (omega arith)
+all-at P (x ∷ xs) h zero d l = h .0
+all-at P (x ∷ xs) h (suc k) d l = all-at P xs (h .1) k d (omega arith)
+
+indexes-below : (N : ℕ) (xs : List NameIx) → Each (λ left x. IndexOk N x) xs → All (λ x. x .0 < N) xs
+indexes-below N [] h = tt
+indexes-below N (x ∷ xs) h = (below-lt N (x .0) (h .0), indexes-below N xs (h .1))
+
+empty : {A : Type 0} (xs : List A) → length xs ≡ 0 → xs ≡ []
+empty [] e = refl
+empty (x ∷ xs) e = absurd (omega arith)
+
+-- ---- an instruction that passes its tests
+module _ {N B left : ℕ} (t : NameIx → ℕ) (i : Instr) (ok : InstrOk N B left i) where
+  agrees : agree t i (i .code) ≡ true
+  agrees = at-known (agree t i) (codes-agree t i) (i .code) (code-known (eqb left 0) (i .code) (ok .code))
+
+  dest-writes : shape-of (i .code) .dest ≡ writes (form t i)
+  dest-writes = same-eq _ _ (and-left (same (shape-of (i .code) .dest) (writes (form t i))) _ agrees)
+
+  last-terminates : shape-of (i .code) .last ≡ terminates (form t i)
+  last-terminates = same-eq _ _ (and-right (same (shape-of (i .code) .dest) (writes (form t i))) _ agrees)
+
+  -- a terminator has nothing behind it
+  stands-last : T (terminates (form t i)) → left ≡ 0
+  stands-last h =
+      let l : shape-of (i .code) .last ≡ true = last-terminates ∙ is-true (terminates (form t i)) h in
+      eqb-true left 0 (code-last (eqb left 0) (i .code) (ok .code) l)
+
+  -- ---- operands
+  -- what follows a code of the shape sh
+  operands-of : (sh : Shape) → shape-of (i .code) ≡ sh → OperandsOk N B sh i
+  operands-of sh e = subst (λ (z : Shape). OperandsOk N B z i) e (ok .rest)
+
+  dest-below : T (writes (form t i)) → i .dest .0 < N
+  dest-below h = go (shape-of (i .code) .dest) (dest-writes ∙ is-true (writes (form t i)) h) (ok .rest .dest)
+    where
+      go : (b : Bool) → b ≡ true → There b (IndexOk N) (nm 0) (i .dest) → i .dest .0 < N
+      go true e k = below-lt N (i .dest .0) k
+      go false e k = let z : _≡_ {A = ℕ} 0 1 = cc in absurd (omega arith)
+
+  args-below : All (λ x. x .0 < N) (i .args)
+  args-below = go (shape-of (i .code)) (not (shape-of (i .code) .literal)) (i .args) (ok .rest .args)
+    where
+      go : (sh : Shape) (b : Bool) (xs : List NameIx) → There b (ArgsOk N sh) [] xs → All (λ x. x .0 < N) xs
+      go sh true xs h = indexes-below N xs (h .each)
+      go sh false xs h = rw h tt
+
+  arg-below : (k : ℕ) → k < length (i .args) → arg i k .0 < N
+  arg-below k h = all-at (λ x. x .0 < N) (i .args) args-below k (nm 0) h
+
+  reads-below : {f : Form} → FormOf t i f → All (λ x. x .0 < N) (reads f)
+  unfolding reads shape-of
+  reads-below (of-constant e) = tt
+  reads-below (of-one o e) =
+      let h = operands-of (value 1) (ap shape-of (sym e) ∙ one-shape o) in
+      (arg-below 0 (count-few (value 1) (length (i .args)) (h .args .count)), tt)
+  reads-below (of-two o e) =
+      let h = operands-of (value 2) (ap shape-of (sym e) ∙ two-shape o) in
+      let l : 2 ≤ length (i .args) = count-few (value 2) (length (i .args)) (h .args .count) in
+      (arg-below 0 (omega arith), (arg-below 1 (omega arith), tt))
+  reads-below of-new = args-below
+  reads-below (of-jump e) = tt
+  reads-below (of-branch e) =
+      let h = operands-of (shape-of 65) (ap shape-of e) in
+      (arg-below 0 (count-few (shape-of 65) (length (i .args)) (h .args .count)), tt)
+  reads-below (of-return e) = args-below
+  reads-below (of-nop e) = tt
+  reads-below of-effect = args-below
+
+  -- ---- types
+  module _ (range : i .lit .bits < 256 ^ 8) (rule : well-typed t i ≡ true) where
+    form-typed : {f : Form} → FormOf t i f → (e : Expr NameIx) → f ≡ pure e → Typed t e (t (i .dest))
+    unfolding shape-of
+    form-typed (of-constant c) e p =
+        let v = value-of (t (i .dest)) (i .lit .kind) (i .lit .bits) in
+        let h = operands-of (shape-of 0) (ap shape-of c) .lit in
+        let j : constant v ≡ e = cc in
+        subst (λ (e : Expr NameIx). Typed t e (t (i .dest))) j
+        (constant-typed (t (i .dest)) (i .lit .kind) (i .lit .bits)
+        (at-most-le 3 (i .lit .kind) (h .kind)) (h .bits) range (fits-rule t i c rule))
+    form-typed (of-one o c) e p =
+        let j : one o (arg i 0) ≡ e = cc in
+        subst (λ (e : Expr NameIx). Typed t e (t (i .dest))) j (one-typed t i o c rule)
+    form-typed (of-two o c) e p =
+        let j : two o (arg i 0) (arg i 1) ≡ e = cc in
+        subst (λ (e : Expr NameIx). Typed t e (t (i .dest))) j (two-typed t i o c rule)
+    form-typed of-new e p = let z : _≡_ {A = ℕ} 0 1 = cc in absurd (omega arith)
+    form-typed (of-jump c) e p = let z : _≡_ {A = ℕ} 0 1 = cc in absurd (omega arith)
+    form-typed (of-branch c) e p = let z : _≡_ {A = ℕ} 0 1 = cc in absurd (omega arith)
+    form-typed (of-return c) e p = let z : _≡_ {A = ℕ} 0 1 = cc in absurd (omega arith)
+    form-typed (of-nop c) e p = let z : _≡_ {A = ℕ} 0 1 = cc in absurd (omega arith)
+    form-typed of-effect e p = let z : _≡_ {A = ℕ} 0 1 = cc in absurd (omega arith)
+
+    pub instr-fit : FitInstr N t i
+    instr-fit = record { args = reads-below (form-of t i); dest = dest-below; shape = dest-writes; typed = form-typed (form-of t i) }
+
+-- ---- blocks and functions
+module _ (N B w : ℕ) (t : NameIx → ℕ) where
+  pub body-fit : (is : List Instr) → Each (InstrOk N B) is → Each (λ left i. RangedInstr w i) is → TypedBody t is → FitBody N t is
+  body-fit [] ok range typed = tt
+  body-fit (i ∷ is) ok range typed = (
+    instr-fit t i (ok .0) (range .0 .bits) (typed .0),
+    ((λ h. empty is (stands-last t i (ok .0) h)), body-fit is (ok .1) (range .1) (typed .1)),
+  )
+
+  blocks-fit :
+      (lim : Limits) (bs : List (Block Instr)) →
+      Each (λ left b. BlockOk lim N B b) bs →
+      Each (λ left b. RangedBlock w b) bs →
+      Each (λ left b. TypedBody t (b .body)) bs →
+      All (λ (b : Block Instr). FitBody N t (b .body)) bs
+  blocks-fit lim [] ok range typed = tt
+  blocks-fit lim (b ∷ bs) ok range typed =
+      (body-fit (b .body) (ok .0 .body) (range .0 .body) (typed .0), blocks-fit lim bs (ok .1) (range .1) (typed .1))
+
+-- a record that passes its tests, in range and well typed
+pub good-fit : (lim : Limits) (r : Record Instr) → RecordOk lim r → Ranged r → TypedFunction (function r) → FitFunction (function r)
+good-fit lim r ok range typed =
+    let n : length (function r .types) ≡ length (r .names) = length-map (r .names) (λ x. x .type) in
+    record {
+      few = rw n (names-args (lim .names) (r .args) (length (r .names)) (ok .size));
+      blocks = rw n (blocks-fit _ _ _ (type-in (function r .types)) lim (r .blocks) (ok .blocks) (range .blocks) typed);
+    }
+
+-- an accepted function
+pub accepted-fit : (s : List ℕ) → Bytes s → (r : Record Placed) (p : ℕ) → accept limits s ≡ got r p → FitFunction (function (plain r))
+accepted-fit s bytes r p e =
+    let h = accept-typed limits s r p e in
+    good-fit limits (plain r) (read-ok limits s r p (h .reads)) (read-ranged limits s bytes r p (h .reads)) (h .typed)

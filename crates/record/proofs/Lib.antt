@@ -1,0 +1,9 @@
+pub mod Tests
+pub mod Form
+pub mod Stands
+pub mod ReadBack
+pub mod Gives
+pub mod Accepted
+pub mod Ranged
+pub mod Written
+pub mod Typed
