@@ -21,7 +21,7 @@ use Rattle.numbering.specs.Simplify.{folded, fold1, fold2, is-int, is-bool, id-
 use Rattle.pairing.specs.Joint.{Fits, InRange, Stands}
 
 -- ---- what is known of a number is its value
-known-value-is : (v c : Val) → known-value v ≡ some c → v ≡ c
+pub known-value-is : (v c : Val) → known-value v ≡ some c → v ≡ c
 unfolding known-value
 known-value-is (int w) c e = cc
 known-value-is (float b) c e = cc
@@ -30,7 +30,7 @@ known-value-is (char k) c e = cc
 known-value-is (bool b) c e = cc
 known-value-is (pointer t b o) c e = cc
 
-known-expr-is : (e : Option (Expr ValNum)) (c : Val) → known-expr e ≡ some c → e ≡ some (constant c)
+pub known-expr-is : (e : Option (Expr ValNum)) (c : Val) → known-expr e ≡ some c → e ≡ some (constant c)
 unfolding known-expr
 known-expr-is none c p = cc
 known-expr-is (some (constant v)) c p = ap (λ x. some (constant x)) (known-value-is v c p)

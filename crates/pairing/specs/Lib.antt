@@ -1,3 +1,4 @@
 pub mod Demand
 pub mod Joint
 pub mod Fit
+pub mod Premises
