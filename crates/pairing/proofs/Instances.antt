@@ -41,3 +41,72 @@ typed-at ts [] p n v e = absurd (let z : _≡_ {A = ℕ} 0 1 = cc in omega arith
 typed-at [] (o ∷ vs) p n v e = absurd p
 typed-at (t ∷ ts) (o ∷ vs) p zero v e = fits-value t o (both (value-fits t o) (typed ts vs) p .0) v e
 typed-at (t ∷ ts) (o ∷ vs) p (suc n) v e = typed-at ts vs (both (value-fits t o) (typed ts vs) p .1) n v e
+
+set-at : (n : ℕ) (vs : List (Option Val)) → T (all-set n vs) → (x : ℕ) → x < n → (v : Val) × (getD vs x none ≡ some v)
+unfolding all-set
+set-at zero vs t x l = absurd (let z : 0 < 0 = omega arith in omega arith)
+set-at (suc n) [] t x l = absurd t
+set-at (suc n) (o ∷ vs) t zero l = held o (both (is-set o) (all-set n vs) t .0)
+  where
+    held : (o : Option Val) → T (is-set o) → (v : Val) × (o ≡ some v)
+    held none p = absurd p
+    held (some v) p = (v, refl)
+set-at (suc n) (o ∷ vs) t (suc x) l = set-at n vs (both (is-set o) (all-set n vs) t .1) x (omega arith)
+
+same-values : (o p : Option Val) → T (same-value o p) → p ≡ o
+same-values none none t = refl
+same-values none (some w) t = absurd t
+same-values (some v) none t = absurd t
+same-values (some v) (some w) t = by (Val-discrete v w) t
+  where
+    by : (d : Dec (v ≡ w)) → T (pick d true false) → some w ≡ some v
+    by (yes e) t = ap some (sym e)
+    by (no h) t = absurd t
+
+same-at : (n : ℕ) (vs ws : List (Option Val)) → T (all-same n vs ws) → (x : ℕ) → x < n → getD ws x none ≡ getD vs x none
+unfolding all-same
+same-at zero vs ws t x l = absurd (let z : 0 < 0 = omega arith in omega arith)
+same-at (suc n) [] ws t x l = absurd t
+same-at (suc n) (o ∷ vs) [] t x l = absurd t
+same-at (suc n) (o ∷ vs) (p ∷ ws) t zero l = same-values o p (both (same-value o p) (all-same n vs ws) t .0)
+same-at (suc n) (o ∷ vs) (p ∷ ws) t (suc x) l = same-at n vs ws (both (same-value o p) (all-same n vs ws) t .1) x (omega arith)
+
+quiet-stop : (s : Stop) → T (not-unset s) → stop s ≢ stop at-unset
+quiet-stop at-end t e = absurd (let z : _≡_ {A = ℕ} 0 1 = cc in omega arith)
+quiet-stop at-ret t e = absurd (let z : _≡_ {A = ℕ} 0 1 = cc in omega arith)
+quiet-stop at-halt t e = absurd (let z : _≡_ {A = ℕ} 0 1 = cc in omega arith)
+quiet-stop at-unset t e = t
+quiet-stop (at-division i c) t e = absurd (let z : _≡_ {A = ℕ} 0 1 = cc in omega arith)
+
+quiet-shown : (p : Place) → T (quiet p) → shown p ≢ stop at-unset
+unfolding shown
+quiet-shown (before b) t e = absurd (let z : _≡_ {A = ℕ} 0 1 = cc in omega arith)
+quiet-shown (stopped s b p) t e = quiet-stop s t e
+
+-- ---- the premises from the tests
+starts-from :
+    (f : Function) (vs ws : List (Option Val)) →
+    T (typed (f .types) vs) →
+    T (all-set (f .args) vs) →
+    T (all-same (names-of f) vs ws) →
+    Starts f (store-of vs) (store-of ws)
+unfolding type-in
+starts-from f vs ws t s e =
+    record {
+      typed = λ x l v p. typed-at (f .types) vs t (x .0) v p;
+      set = λ x l. set-at (f .args) vs s (x .0) l;
+      same = λ x l. same-at (names-of f) vs ws e (x .0) l;
+    }
+
+-- what demand 3 gives of a record that is accepted, and of stores and answers that meet its premises
+pub alike-from :
+    (f g : Function) →
+    RunAlike f g →
+    (vs ws : List (Option Val)) (answers : List Answer) (n : ℕ) →
+    T (typed (f .types) vs) →
+    T (all-set (f .args) vs) →
+    T (all-same (names-of f) vs ws) →
+    T (quiet (run f (store-of vs) answers n .place)) →
+    Agree (names-of f) (g .blocks) (run f (store-of vs) answers n) (run g (store-of ws) answers n)
+alike-from f g alike vs ws answers n t s e q =
+    alike (store-of vs) (store-of ws) (starts-from f vs ws t s e) answers n (quiet-shown (run f (store-of vs) answers n .place) q)

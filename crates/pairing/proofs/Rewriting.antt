@@ -367,6 +367,7 @@ block-paired-from Γ performed (i ∷ is) (fit, (last, fits)) s types =
     xs : List NameIx
     xs = reads (form (Γ .ctx .types) i)
 
+-- the rewriting of a block is accepted; k: how many names are made before it
 pub block-paired :
     (Γ : Setting) → Γ .args ≤ Γ .names → ((i : Instr) → Performed (Γ .ctx) i) → (is : List Instr) (k : ℕ) →
     FitBody (Γ .names) (Γ .ctx .types) is →

@@ -45,6 +45,7 @@ pub record Ready
   pub sole : (v : ValNum) → v .0 < s .next → locs v ≡ d → P v
 
 -- ---- the decision
+-- no save, where each number that lives in dest is one of P; or the save of dest's number
 pub data Overwrites (N : ℕ) (s : State) (i : Instr) (P : ValNum → Type 0) : Saved → Type 0 where
   kept : ((v : ValNum) → v .0 < s .next → s .locs v ≡ i .dest → P v) → Overwrites N s i P (no-save s)
   saved : (v : ValNum) → s .env (i .dest) ≡ some v → Overwrites N s i P (save N s i v)
@@ -126,6 +127,7 @@ save-is-save : (N : ℕ) (s : State) (i : Instr) → is-save N (save-of N s i) �
 unfolding is-save code1 shape-of
 save-is-save N s i = le-leb N (N + s .temps) (omega arith)
 
+-- rest: what is written behind the decision, by the state that it leaves
 pub saved-paired :
     (Γ : Setting) (s : State) (env₂ : NameIx → Option ValNum) → Housed Γ s env₂ →
     (i : Instr) → i .dest .0 < Γ .names → (is : List Instr) (P : ValNum → Type 0) (q : Saved) (rest : State → List Instr) →
