@@ -18,6 +18,8 @@ use Rattle.record.specs.Typing.{accept}
 use Rattle.numbering.specs.Number.{lvn}
 use Rattle.machine.specs.Machine.{Store, Answer, Stop, at-end, at-ret, at-halt, at-unset, at-division, Place, before, stopped, run}
 use Rattle.machine.specs.Examples.{store-of, function-of}
+use Rattle.pairing.proofs.Accepted.{accepted-fit}
+use Rattle.pairing.proofs.Functions.{demand3}
 use Rattle.pairing.specs.Demand.{Shown, next-block, stop, shown, Starts, Agree, RunAlike}
 use Rattle.pairing.specs.Premises.{accepted, are-bytes, value-fits, typed, is-set, all-set, same-value, all-same, not-unset, quiet}
 
@@ -98,15 +100,43 @@ starts-from f vs ws t s e =
       same = λ x l. same-at (names-of f) vs ws e (x .0) l;
     }
 
--- what demand 3 gives of a record that is accepted, and of stores and answers that meet its premises
-pub alike-from :
-    (f g : Function) →
-    RunAlike f g →
-    (vs ws : List (Option Val)) (answers : List Answer) (n : ℕ) →
-    T (typed (f .types) vs) →
-    T (all-set (f .args) vs) →
-    T (all-same (names-of f) vs ws) →
-    T (quiet (run f (store-of vs) answers n .place)) →
-    Agree (names-of f) (g .blocks) (run f (store-of vs) answers n) (run g (store-of ws) answers n)
-alike-from f g alike vs ws answers n t s e q =
-    alike (store-of vs) (store-of ws) (starts-from f vs ws t s e) answers n (quiet-shown (run f (store-of vs) answers n .place) q)
+-- ---- a record that is accepted, and its rewriting
+-- the function of a record and of its rewriting run alike, if the tests say that it is a list of bytes and accepted
+pub record-alike :
+    (s : List ℕ) → T (are-bytes s) → T (accepted (accept limits s)) →
+    RunAlike (function-of (accept limits s)) (lvn (function-of (accept limits s)))
+record-alike s b a = go (accept limits s) refl a
+  where
+    go : (x : Res (Record Placed)) → accept limits s ≡ x → T (accepted x) → RunAlike (function-of x) (lvn (function-of x))
+    go (got r p) e t = demand3 (function (plain r)) (accepted-fit s (bytes-are s b) r p e)
+    go (fault k o) e t = absurd t
+
+-- the two runs over n blocks from the stores vs and ws, and that they are alike
+pub record Instance (s : List ℕ) (vs ws : List (Option Val)) (answers : List Answer) (n : ℕ) : Type 0 where
+  pub alike :
+      let f = function-of (accept limits s) in
+      Agree (names-of f) (lvn f .blocks) (run f (store-of vs) answers n) (run (lvn f) (store-of ws) answers n)
+
+-- every premise of demand 3 in one test
+abbrev pub meets : List ℕ → List (Option Val) → List (Option Val) → List Answer → ℕ → Bool
+meets s vs ws answers n =
+    let f = function-of (accept limits s) in
+    are-bytes s && (accepted (accept limits s) && (typed (f .types) vs && (all-set (f .args) vs &&
+    (all-same (names-of f) vs ws && quiet (run f (store-of vs) answers n .place)))))
+
+pub instance :
+    (s : List ℕ) (vs ws : List (Option Val)) (answers : List Answer) (n : ℕ) →
+    T (meets s vs ws answers n) →
+    Instance s vs ws answers n
+instance s vs ws answers n t =
+    let f = function-of (accept limits s) in
+    let (b, t₁) = both (are-bytes s) _ t in
+    let (a, t₂) = both (accepted (accept limits s)) _ t₁ in
+    let (ty, t₃) = both (typed (f .types) vs) _ t₂ in
+    let (st, t₄) = both (all-set (f .args) vs) _ t₃ in
+    let (sa, q) = both (all-same (names-of f) vs ws) _ t₄ in
+    record {
+      alike =
+          record-alike s b a (store-of vs) (store-of ws) (starts-from f vs ws ty st sa) answers n
+          (quiet-shown (run f (store-of vs) answers n .place) q);
+    }

@@ -18,3 +18,4 @@ pub mod Functions
 pub mod Rules
 pub mod Accepted
 pub mod Instances
+pub mod Computed

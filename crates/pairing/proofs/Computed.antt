@@ -1,0 +1,167 @@
+-- Instances of demand 3, computed: functions, stores and answers that meet every premise, with the events and the steps of both runs.
+use Prim.Native.Nat.{ℕ}
+use mathlib.Core.Path.{_≡_, refl}
+use mathlib.Core.Bool.{true, false, xor}
+use mathlib.Core.List.{List, [], _∷_}
+use mathlib.Core.Option.{Option, none, some}
+use native.Mathlib.Decide.{ℕ-discrete}
+use Rattle.arith.specs.Value.{Val, int, char, bool}
+use Rattle.arith.specs.Operation.{by-zero}
+use Rattle.record.specs.Record.{limits}
+use Rattle.record.specs.Samples.{division, call, loop}
+use Rattle.arith.specs.Code.{code1, code2, with-code, one-of, two-of}
+use Rattle.arith.specs.Map.{upd}
+use Rattle.arith.specs.Operation.{asInt, asBool, with-both, with-one, divide, shift, apply1, apply2, eval}
+use Rattle.arith.specs.Value.{typeOf, inRange}
+use Rattle.arith.specs.Word.{minus-one, addW, subW, mulW, divW, ltW}
+use Rattle.record.specs.Form.{value-of, form}
+use Rattle.record.specs.Hex.{digit-value, bytes-from, hex}
+use Rattle.record.specs.Read.{name-index, literal, arguments, operands, instr, block, name, names, length-field, end, contents, read}
+use Rattle.record.specs.Reader.{give, _>>=_, here, field, text, if-there, times}
+use Rattle.record.specs.Record.{type-in, id-bytes}
+use Rattle.record.specs.Shape.{shape-of}
+use Rattle.record.specs.Tests.{any, at-most, below, length-test, version-test, names-test, type-test, text-length-test, text-test, saves-test, code-test, count-test, literal-test}
+use Rattle.record.specs.Text.{all-text, well-formed, undigited, reserved, same-bytes, among}
+use Rattle.record.specs.Typing.{obeys, well-typed, body-types, block-types, accept}
+use Rattle.numbering.specs.Number.{reads, numbered, make-val, val-to-instr, save, save-at, handle-overwrite, find, get-val-num, number-dest, place, by-form, instr-lvn, block-lvn, is-save, count-saves, blocks-lvn, saved-in, made-from, lvn}
+use Rattle.numbering.specs.Simplify.{folded, fold1, fold2, is-int, is-bool, identity, ordered, simplify1, simplify2, simplify}
+use Rattle.numbering.specs.State.{start, new-number, update-env, rehome, see, gen-new-vals, number-of, home-of, known-value, known-expr, known}
+use Rattle.machine.specs.Machine.{Answer, value, go-on, halt, at-end, at-ret, at-halt, at-division, before, stopped, tick, assign, happens, read-all, finish, take-value, answered, perform, ask, acknowledged, tell, leave, choose, act, step, run-block, nth, arrive, passes, through, advance-from, advance, begin, iterate, run-with, run}
+use Rattle.machine.specs.Examples.{Summary, summary, store-of, function-of, event}
+use Rattle.pairing.specs.Premises.{are-bytes, typed, all-set, all-same}
+use Rattle.pairing.proofs.Instances.{Instance, instance}
+
+-- the run of a record's function and the run of its rewriting; the values are those of the original names
+abbrev first-run : List ℕ → List (Option Val) → List Answer → ℕ → Summary
+first-run s vs answers n = let f = function-of (accept limits s) in summary f (run f (store-of vs) answers n)
+
+abbrev second-run : List ℕ → List (Option Val) → List Answer → ℕ → Summary
+second-run s ws answers n = let f = function-of (accept limits s) in summary f (run (lvn f) (store-of ws) answers n)
+
+-- C5: x = 5; y = 5; x = 6; print y
+abbrev pub c5 : List ℕ
+c5 = hex "00000048 01 00 0002 000178 000179 0001 0004 0000 00000001 00 0000 00 0000000000000005 00000002 00 0001 00 0000000000000005 00000003 00 0000 00 0000000000000006 00000004 44 01 0001"
+
+-- ---- C5, with a made name that holds a char at the start: one save, one step more
+pub c5-alike : Instance c5 (none ∷ none ∷ []) (none ∷ none ∷ some (char 97) ∷ []) (go-on ∷ []) 1
+unfolding code1 code2 with-code one-of two-of upd asInt asBool with-both with-one divide shift apply1 apply2 eval typeOf inRange addW subW mulW divW ltW value-of form digit-value bytes-from hex name-index literal arguments operands instr block name names length-field end contents read give _>>=_ here field text if-there times type-in id-bytes shape-of any at-most below length-test version-test names-test type-test text-length-test text-test saves-test code-test count-test literal-test all-text well-formed undigited reserved same-bytes among obeys well-typed body-types block-types accept reads numbered make-val val-to-instr save save-at handle-overwrite find get-val-num number-dest place by-form instr-lvn block-lvn is-save count-saves blocks-lvn saved-in made-from lvn folded fold1 fold2 is-int is-bool identity ordered simplify1 simplify2 simplify start new-number update-env rehome see gen-new-vals number-of home-of known-value known-expr known tick assign happens read-all finish take-value answered perform ask acknowledged tell leave choose act step run-block nth arrive passes through advance-from advance begin iterate run-with run xor ℕ-discrete are-bytes typed all-set all-same
+c5-alike = instance c5 (none ∷ none ∷ []) (none ∷ none ∷ some (char 97) ∷ []) (go-on ∷ []) 1 tt
+
+pub c5-run :
+    first-run c5 (none ∷ none ∷ []) (go-on ∷ []) 1 ≡
+    record {
+      place = stopped at-end 1 0;
+      passed = 0 ∷ [];
+      events = event 4 68 0 (int 5 ∷ []) ∷ [];
+      answers = [];
+      values = some (int 6) ∷ some (int 5) ∷ [];
+      steps = 4;
+    }
+unfolding code1 code2 with-code one-of two-of upd asInt asBool with-both with-one divide shift apply1 apply2 eval typeOf inRange addW subW mulW divW ltW value-of form digit-value bytes-from hex name-index literal arguments operands instr block name names length-field end contents read give _>>=_ here field text if-there times type-in id-bytes shape-of any at-most below length-test version-test names-test type-test text-length-test text-test saves-test code-test count-test literal-test all-text well-formed undigited reserved same-bytes among obeys well-typed body-types block-types accept reads numbered make-val val-to-instr save save-at handle-overwrite find get-val-num number-dest place by-form instr-lvn block-lvn is-save count-saves blocks-lvn saved-in made-from lvn folded fold1 fold2 is-int is-bool identity ordered simplify1 simplify2 simplify start new-number update-env rehome see gen-new-vals number-of home-of known-value known-expr known tick assign happens read-all finish take-value answered perform ask acknowledged tell leave choose act step run-block nth arrive passes through advance-from advance begin iterate run-with run xor ℕ-discrete are-bytes typed all-set all-same
+c5-run = refl
+
+pub c5-rewritten-run :
+    second-run c5 (none ∷ none ∷ some (char 97) ∷ []) (go-on ∷ []) 1 ≡
+    record {
+      place = stopped at-end 1 0;
+      passed = 0 ∷ [];
+      events = event 4 68 0 (int 5 ∷ []) ∷ [];
+      answers = [];
+      values = some (int 6) ∷ some (int 5) ∷ [];
+      steps = 5;
+    }
+unfolding code1 code2 with-code one-of two-of upd asInt asBool with-both with-one divide shift apply1 apply2 eval typeOf inRange addW subW mulW divW ltW value-of form digit-value bytes-from hex name-index literal arguments operands instr block name names length-field end contents read give _>>=_ here field text if-there times type-in id-bytes shape-of any at-most below length-test version-test names-test type-test text-length-test text-test saves-test code-test count-test literal-test all-text well-formed undigited reserved same-bytes among obeys well-typed body-types block-types accept reads numbered make-val val-to-instr save save-at handle-overwrite find get-val-num number-dest place by-form instr-lvn block-lvn is-save count-saves blocks-lvn saved-in made-from lvn folded fold1 fold2 is-int is-bool identity ordered simplify1 simplify2 simplify start new-number update-env rehome see gen-new-vals number-of home-of known-value known-expr known tick assign happens read-all finish take-value answered perform ask acknowledged tell leave choose act step run-block nth arrive passes through advance-from advance begin iterate run-with run xor ℕ-discrete are-bytes typed all-set all-same
+c5-rewritten-run = refl
+
+-- ---- a division by zero: the save before it is counted
+pub division-alike : Instance division (some (int 0) ∷ none ∷ []) (some (int 0) ∷ none ∷ []) [] 3
+unfolding code1 code2 with-code one-of two-of upd asInt asBool with-both with-one divide shift apply1 apply2 eval typeOf inRange addW subW mulW divW ltW value-of form digit-value bytes-from hex name-index literal arguments operands instr block name names length-field end contents read give _>>=_ here field text if-there times type-in id-bytes shape-of any at-most below length-test version-test names-test type-test text-length-test text-test saves-test code-test count-test literal-test all-text well-formed undigited reserved same-bytes among obeys well-typed body-types block-types accept reads numbered make-val val-to-instr save save-at handle-overwrite find get-val-num number-dest place by-form instr-lvn block-lvn is-save count-saves blocks-lvn saved-in made-from lvn folded fold1 fold2 is-int is-bool identity ordered simplify1 simplify2 simplify start new-number update-env rehome see gen-new-vals number-of home-of known-value known-expr known tick assign happens read-all finish take-value answered perform ask acknowledged tell leave choose act step run-block nth arrive passes through advance-from advance begin iterate run-with run xor ℕ-discrete are-bytes typed all-set all-same
+division-alike = instance division (some (int 0) ∷ none ∷ []) (some (int 0) ∷ none ∷ []) [] 3 tt
+
+pub division-run :
+    first-run division (some (int 0) ∷ none ∷ []) [] 3 ≡
+    record {
+      place = stopped (at-division 2 by-zero) 0 1;
+      passed = [];
+      events = [];
+      answers = [];
+      values = some (int 0) ∷ some (int 7) ∷ [];
+      steps = 2;
+    }
+unfolding code1 code2 with-code one-of two-of upd asInt asBool with-both with-one divide shift apply1 apply2 eval typeOf inRange addW subW mulW divW ltW value-of form digit-value bytes-from hex name-index literal arguments operands instr block name names length-field end contents read give _>>=_ here field text if-there times type-in id-bytes shape-of any at-most below length-test version-test names-test type-test text-length-test text-test saves-test code-test count-test literal-test all-text well-formed undigited reserved same-bytes among obeys well-typed body-types block-types accept reads numbered make-val val-to-instr save save-at handle-overwrite find get-val-num number-dest place by-form instr-lvn block-lvn is-save count-saves blocks-lvn saved-in made-from lvn folded fold1 fold2 is-int is-bool identity ordered simplify1 simplify2 simplify start new-number update-env rehome see gen-new-vals number-of home-of known-value known-expr known tick assign happens read-all finish take-value answered perform ask acknowledged tell leave choose act step run-block nth arrive passes through advance-from advance begin iterate run-with run xor ℕ-discrete are-bytes typed all-set all-same
+division-run = refl
+
+pub division-rewritten-run :
+    second-run division (some (int 0) ∷ none ∷ []) [] 3 ≡
+    record {
+      place = stopped (at-division 2 by-zero) 0 2;
+      passed = [];
+      events = [];
+      answers = [];
+      values = some (int 0) ∷ some (int 7) ∷ [];
+      steps = 3;
+    }
+unfolding code1 code2 with-code one-of two-of upd asInt asBool with-both with-one divide shift apply1 apply2 eval typeOf inRange addW subW mulW divW ltW value-of form digit-value bytes-from hex name-index literal arguments operands instr block name names length-field end contents read give _>>=_ here field text if-there times type-in id-bytes shape-of any at-most below length-test version-test names-test type-test text-length-test text-test saves-test code-test count-test literal-test all-text well-formed undigited reserved same-bytes among obeys well-typed body-types block-types accept reads numbered make-val val-to-instr save save-at handle-overwrite find get-val-num number-dest place by-form instr-lvn block-lvn is-save count-saves blocks-lvn saved-in made-from lvn folded fold1 fold2 is-int is-bool identity ordered simplify1 simplify2 simplify start new-number update-env rehome see gen-new-vals number-of home-of known-value known-expr known tick assign happens read-all finish take-value answered perform ask acknowledged tell leave choose act step run-block nth arrive passes through advance-from advance begin iterate run-with run xor ℕ-discrete are-bytes typed all-set all-same
+division-rewritten-run = refl
+
+-- ---- an answer that does not fit: a bool for an int
+pub call-alike : Instance call (some (int 5) ∷ []) (some (int 5) ∷ []) (value (bool true) ∷ go-on ∷ []) 1
+unfolding code1 code2 with-code one-of two-of upd asInt asBool with-both with-one divide shift apply1 apply2 eval typeOf inRange addW subW mulW divW ltW value-of form digit-value bytes-from hex name-index literal arguments operands instr block name names length-field end contents read give _>>=_ here field text if-there times type-in id-bytes shape-of any at-most below length-test version-test names-test type-test text-length-test text-test saves-test code-test count-test literal-test all-text well-formed undigited reserved same-bytes among obeys well-typed body-types block-types accept reads numbered make-val val-to-instr save save-at handle-overwrite find get-val-num number-dest place by-form instr-lvn block-lvn is-save count-saves blocks-lvn saved-in made-from lvn folded fold1 fold2 is-int is-bool identity ordered simplify1 simplify2 simplify start new-number update-env rehome see gen-new-vals number-of home-of known-value known-expr known tick assign happens read-all finish take-value answered perform ask acknowledged tell leave choose act step run-block nth arrive passes through advance-from advance begin iterate run-with run xor ℕ-discrete are-bytes typed all-set all-same
+call-alike = instance call (some (int 5) ∷ []) (some (int 5) ∷ []) (value (bool true) ∷ go-on ∷ []) 1 tt
+
+pub call-run :
+    first-run call (some (int 5) ∷ []) (value (bool true) ∷ go-on ∷ []) 1 ≡
+    record {
+      place = stopped at-halt 0 0;
+      passed = [];
+      events = event 1 20 3 (int 5 ∷ []) ∷ [];
+      answers = go-on ∷ [];
+      values = some (int 5) ∷ [];
+      steps = 1;
+    }
+unfolding code1 code2 with-code one-of two-of upd asInt asBool with-both with-one divide shift apply1 apply2 eval typeOf inRange addW subW mulW divW ltW value-of form digit-value bytes-from hex name-index literal arguments operands instr block name names length-field end contents read give _>>=_ here field text if-there times type-in id-bytes shape-of any at-most below length-test version-test names-test type-test text-length-test text-test saves-test code-test count-test literal-test all-text well-formed undigited reserved same-bytes among obeys well-typed body-types block-types accept reads numbered make-val val-to-instr save save-at handle-overwrite find get-val-num number-dest place by-form instr-lvn block-lvn is-save count-saves blocks-lvn saved-in made-from lvn folded fold1 fold2 is-int is-bool identity ordered simplify1 simplify2 simplify start new-number update-env rehome see gen-new-vals number-of home-of known-value known-expr known tick assign happens read-all finish take-value answered perform ask acknowledged tell leave choose act step run-block nth arrive passes through advance-from advance begin iterate run-with run xor ℕ-discrete are-bytes typed all-set all-same
+call-run = refl
+
+pub call-rewritten-run :
+    second-run call (some (int 5) ∷ []) (value (bool true) ∷ go-on ∷ []) 1 ≡
+    record {
+      place = stopped at-halt 0 1;
+      passed = [];
+      events = event 1 20 3 (int 5 ∷ []) ∷ [];
+      answers = go-on ∷ [];
+      values = some (int 5) ∷ [];
+      steps = 2;
+    }
+unfolding code1 code2 with-code one-of two-of upd asInt asBool with-both with-one divide shift apply1 apply2 eval typeOf inRange addW subW mulW divW ltW value-of form digit-value bytes-from hex name-index literal arguments operands instr block name names length-field end contents read give _>>=_ here field text if-there times type-in id-bytes shape-of any at-most below length-test version-test names-test type-test text-length-test text-test saves-test code-test count-test literal-test all-text well-formed undigited reserved same-bytes among obeys well-typed body-types block-types accept reads numbered make-val val-to-instr save save-at handle-overwrite find get-val-num number-dest place by-form instr-lvn block-lvn is-save count-saves blocks-lvn saved-in made-from lvn folded fold1 fold2 is-int is-bool identity ordered simplify1 simplify2 simplify start new-number update-env rehome see gen-new-vals number-of home-of known-value known-expr known tick assign happens read-all finish take-value answered perform ask acknowledged tell leave choose act step run-block nth arrive passes through advance-from advance begin iterate run-with run xor ℕ-discrete are-bytes typed all-set all-same
+call-rewritten-run = refl
+
+-- ---- a loop passed twice, its save counted each time
+pub loop-alike : Instance loop (some (int 2) ∷ some (int minus-one) ∷ some (int 0) ∷ none ∷ []) (some (int 2) ∷ some (int minus-one) ∷ some (int 0) ∷ none ∷ []) (go-on ∷ go-on ∷ []) 4
+unfolding code1 code2 with-code one-of two-of upd asInt asBool with-both with-one divide shift apply1 apply2 eval typeOf inRange addW subW mulW divW ltW value-of form digit-value bytes-from hex name-index literal arguments operands instr block name names length-field end contents read give _>>=_ here field text if-there times type-in id-bytes shape-of any at-most below length-test version-test names-test type-test text-length-test text-test saves-test code-test count-test literal-test all-text well-formed undigited reserved same-bytes among obeys well-typed body-types block-types accept reads numbered make-val val-to-instr save save-at handle-overwrite find get-val-num number-dest place by-form instr-lvn block-lvn is-save count-saves blocks-lvn saved-in made-from lvn folded fold1 fold2 is-int is-bool identity ordered simplify1 simplify2 simplify start new-number update-env rehome see gen-new-vals number-of home-of known-value known-expr known tick assign happens read-all finish take-value answered perform ask acknowledged tell leave choose act step run-block nth arrive passes through advance-from advance begin iterate run-with run xor ℕ-discrete are-bytes typed all-set all-same
+loop-alike = instance loop (some (int 2) ∷ some (int minus-one) ∷ some (int 0) ∷ none ∷ []) (some (int 2) ∷ some (int minus-one) ∷ some (int 0) ∷ none ∷ []) (go-on ∷ go-on ∷ []) 4 tt
+
+pub loop-run :
+    first-run loop (some (int 2) ∷ some (int minus-one) ∷ some (int 0) ∷ none ∷ []) (go-on ∷ go-on ∷ []) 4 ≡
+    record {
+      place = stopped at-ret 1 0;
+      passed = 0 ∷ 0 ∷ [];
+      events = event 2 68 0 (int 1 ∷ []) ∷ event 2 68 0 (int 0 ∷ []) ∷ event 5 66 0 (int 0 ∷ []) ∷ [];
+      answers = [];
+      values = some (int 0) ∷ some (int minus-one) ∷ some (int 0) ∷ some (bool false) ∷ [];
+      steps = 9;
+    }
+unfolding code1 code2 with-code one-of two-of upd asInt asBool with-both with-one divide shift apply1 apply2 eval typeOf inRange addW subW mulW divW ltW value-of form digit-value bytes-from hex name-index literal arguments operands instr block name names length-field end contents read give _>>=_ here field text if-there times type-in id-bytes shape-of any at-most below length-test version-test names-test type-test text-length-test text-test saves-test code-test count-test literal-test all-text well-formed undigited reserved same-bytes among obeys well-typed body-types block-types accept reads numbered make-val val-to-instr save save-at handle-overwrite find get-val-num number-dest place by-form instr-lvn block-lvn is-save count-saves blocks-lvn saved-in made-from lvn folded fold1 fold2 is-int is-bool identity ordered simplify1 simplify2 simplify start new-number update-env rehome see gen-new-vals number-of home-of known-value known-expr known tick assign happens read-all finish take-value answered perform ask acknowledged tell leave choose act step run-block nth arrive passes through advance-from advance begin iterate run-with run xor ℕ-discrete are-bytes typed all-set all-same
+loop-run = refl
+
+pub loop-rewritten-run :
+    second-run loop (some (int 2) ∷ some (int minus-one) ∷ some (int 0) ∷ none ∷ []) (go-on ∷ go-on ∷ []) 4 ≡
+    record {
+      place = stopped at-ret 1 0;
+      passed = 0 ∷ 0 ∷ [];
+      events = event 2 68 0 (int 1 ∷ []) ∷ event 2 68 0 (int 0 ∷ []) ∷ event 5 66 0 (int 0 ∷ []) ∷ [];
+      answers = [];
+      values = some (int 0) ∷ some (int minus-one) ∷ some (int 0) ∷ some (bool false) ∷ [];
+      steps = 11;
+    }
+unfolding code1 code2 with-code one-of two-of upd asInt asBool with-both with-one divide shift apply1 apply2 eval typeOf inRange addW subW mulW divW ltW value-of form digit-value bytes-from hex name-index literal arguments operands instr block name names length-field end contents read give _>>=_ here field text if-there times type-in id-bytes shape-of any at-most below length-test version-test names-test type-test text-length-test text-test saves-test code-test count-test literal-test all-text well-formed undigited reserved same-bytes among obeys well-typed body-types block-types accept reads numbered make-val val-to-instr save save-at handle-overwrite find get-val-num number-dest place by-form instr-lvn block-lvn is-save count-saves blocks-lvn saved-in made-from lvn folded fold1 fold2 is-int is-bool identity ordered simplify1 simplify2 simplify start new-number update-env rehome see gen-new-vals number-of home-of known-value known-expr known tick assign happens read-all finish take-value answered perform ask acknowledged tell leave choose act step run-block nth arrive passes through advance-from advance begin iterate run-with run xor ℕ-discrete are-bytes typed all-set all-same
+loop-rewritten-run = refl
