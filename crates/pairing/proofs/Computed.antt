@@ -2,12 +2,12 @@
 use Prim.Native.Nat.{ℕ}
 use mathlib.Core.Path.{_≡_, refl}
 use mathlib.Core.Bool.{true, false, xor}
-use mathlib.Core.List.{List, [], _∷_}
+use mathlib.Core.List.{List, [], _∷_, map}
 use mathlib.Core.Option.{Option, none, some}
 use native.Mathlib.Decide.{ℕ-discrete}
 use Rattle.arith.specs.Value.{Val, int, char, bool}
 use Rattle.arith.specs.Operation.{by-zero}
-use Rattle.record.specs.Record.{limits}
+use Rattle.record.specs.Record.{Instr, Block, limits}
 use Rattle.record.specs.Samples.{division, call, loop}
 use Rattle.arith.specs.Code.{code1, code2, with-code, one-of, two-of}
 use Rattle.arith.specs.Map.{upd}
@@ -26,8 +26,9 @@ use Rattle.record.specs.Typing.{obeys, well-typed, body-types, block-types, acc
 use Rattle.numbering.specs.Number.{reads, numbered, make-val, val-to-instr, save, save-at, handle-overwrite, find, get-val-num, number-dest, place, by-form, instr-lvn, block-lvn, is-save, count-saves, blocks-lvn, saved-in, made-from, lvn}
 use Rattle.numbering.specs.Simplify.{folded, fold1, fold2, is-int, is-bool, identity, ordered, simplify1, simplify2, simplify}
 use Rattle.numbering.specs.State.{start, new-number, update-env, rehome, see, gen-new-vals, number-of, home-of, known-value, known-expr, known}
-use Rattle.machine.specs.Machine.{Answer, value, go-on, halt, at-end, at-ret, at-halt, at-division, before, stopped, tick, assign, happens, read-all, finish, take-value, answered, perform, ask, acknowledged, tell, leave, choose, act, step, run-block, nth, arrive, passes, through, advance-from, advance, begin, iterate, run-with, run}
+use Rattle.machine.specs.Machine.{Answer, value, go-on, halt, at-end, at-ret, at-halt, at-unset, at-division, before, stopped, tick, assign, happens, read-all, finish, take-value, answered, perform, ask, acknowledged, tell, leave, choose, act, step, run-block, nth, arrive, passes, through, advance-from, advance, begin, iterate, run-with, run}
 use Rattle.machine.specs.Examples.{Summary, summary, store-of, function-of, event}
+use Rattle.pairing.specs.Demand.{next-block, stop, shown, filed, saves-before, count-dests}
 use Rattle.pairing.specs.Premises.{are-bytes, typed, all-set, all-same}
 use Rattle.pairing.proofs.Instances.{Instance, instance}
 
@@ -165,3 +166,37 @@ pub loop-rewritten-run :
     }
 unfolding code1 code2 with-code one-of two-of upd asInt asBool with-both with-one divide shift apply1 apply2 eval typeOf inRange addW subW mulW divW ltW value-of form digit-value bytes-from hex name-index literal arguments operands instr block name names length-field end contents read give _>>=_ here field text if-there times type-in id-bytes shape-of any at-most below length-test version-test names-test type-test text-length-test text-test saves-test code-test count-test literal-test all-text well-formed undigited reserved same-bytes among obeys well-typed body-types block-types accept reads numbered make-val val-to-instr save save-at handle-overwrite find get-val-num number-dest place by-form instr-lvn block-lvn is-save count-saves blocks-lvn saved-in made-from lvn folded fold1 fold2 is-int is-bool identity ordered simplify1 simplify2 simplify start new-number update-env rehome see gen-new-vals number-of home-of known-value known-expr known tick assign happens read-all finish take-value answered perform ask acknowledged tell leave choose act step run-block nth arrive passes through advance-from advance begin iterate run-with run xor ℕ-discrete are-bytes typed all-set all-same
 loop-rewritten-run = refl
+
+-- ---- what the statement counts and compares
+abbrev rewritten-blocks : List ℕ → List (Block Instr)
+rewritten-blocks s = lvn (function-of (accept limits s)) .blocks
+
+-- the loop's block passed twice; before the division, before its save, and where nothing stopped
+pub counted :
+    filed (rewritten-blocks loop) (0 ∷ 0 ∷ []) ∷
+    filed (rewritten-blocks loop) (1 ∷ 0 ∷ []) ∷
+    saves-before 2 (rewritten-blocks division) (stopped (at-division 2 by-zero) 0 2) ∷
+    saves-before 2 (rewritten-blocks division) (stopped (at-division 2 by-zero) 0 1) ∷
+    saves-before 2 (rewritten-blocks division) (before 0) ∷
+    [] ≡
+    2 ∷ 1 ∷ 1 ∷ 0 ∷ 0 ∷ []
+unfolding code1 code2 with-code one-of two-of upd asInt asBool with-both with-one divide shift apply1 apply2 eval typeOf inRange addW subW mulW divW ltW value-of form digit-value bytes-from hex name-index literal arguments operands instr block name names length-field end contents read give _>>=_ here field text if-there times type-in id-bytes shape-of any at-most below length-test version-test names-test type-test text-length-test text-test saves-test code-test count-test literal-test all-text well-formed undigited reserved same-bytes among obeys well-typed body-types block-types accept reads numbered make-val val-to-instr save save-at handle-overwrite find get-val-num number-dest place by-form instr-lvn block-lvn is-save count-saves blocks-lvn saved-in made-from lvn folded fold1 fold2 is-int is-bool identity ordered simplify1 simplify2 simplify start new-number update-env rehome see gen-new-vals number-of home-of known-value known-expr known tick assign happens read-all finish take-value answered perform ask acknowledged tell leave choose act step run-block nth arrive passes through advance-from advance begin iterate run-with run xor ℕ-discrete are-bytes typed all-set all-same filed saves-before
+counted = refl
+
+-- a stop is shown by its kind, a division by id and cause, and where it stands in the block is not
+pub compared :
+    shown (before 3) ∷
+    shown (stopped at-end 1 0) ∷
+    shown (stopped at-ret 1 2) ∷
+    shown (stopped at-halt 1 2) ∷
+    shown (stopped at-unset 1 2) ∷
+    shown (stopped (at-division 7 by-zero) 1 2) ∷
+    [] ≡
+    next-block 3 ∷ stop at-end ∷ stop at-ret ∷ stop at-halt ∷ stop at-unset ∷ stop (at-division 7 by-zero) ∷ []
+unfolding shown
+compared = refl
+
+-- the division's function: two instructions with a dest
+pub destinations : map (λ (b : Block Instr). count-dests (b .body)) (function-of (accept limits division) .blocks) ≡ 2 ∷ []
+unfolding code1 code2 with-code one-of two-of upd asInt asBool with-both with-one divide shift apply1 apply2 eval typeOf inRange addW subW mulW divW ltW value-of form digit-value bytes-from hex name-index literal arguments operands instr block name names length-field end contents read give _>>=_ here field text if-there times type-in id-bytes shape-of any at-most below length-test version-test names-test type-test text-length-test text-test saves-test code-test count-test literal-test all-text well-formed undigited reserved same-bytes among obeys well-typed body-types block-types accept reads numbered make-val val-to-instr save save-at handle-overwrite find get-val-num number-dest place by-form instr-lvn block-lvn is-save count-saves blocks-lvn saved-in made-from lvn folded fold1 fold2 is-int is-bool identity ordered simplify1 simplify2 simplify start new-number update-env rehome see gen-new-vals number-of home-of known-value known-expr known tick assign happens read-all finish take-value answered perform ask acknowledged tell leave choose act step run-block nth arrive passes through advance-from advance begin iterate run-with run xor ℕ-discrete are-bytes typed all-set all-same count-dests
+destinations = refl
