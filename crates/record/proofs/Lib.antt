@@ -7,3 +7,5 @@ pub mod Accepted
 pub mod Ranged
 pub mod Written
 pub mod Typed
+pub mod Takes
+pub mod ReadFrom
