@@ -1,2 +1,15 @@
 pub mod Saves
 pub mod Made
+pub mod Digits
+pub mod Texts
+pub mod Codes
+pub mod Simplified
+pub mod Homes
+pub mod Written
+pub mod Passes
+pub mod Names
+pub mod Wide
+pub mod Size
+pub mod Range
+pub mod Output
+pub mod Differ

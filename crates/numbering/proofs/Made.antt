@@ -194,7 +194,7 @@ getD-either P [] ys d j l h k = k j l
 getD-either P (x ∷ xs) ys d zero l h k = h 0 (omega arith)
 getD-either P (x ∷ xs) ys d (suc j) l h k = getD-either P xs ys d j (omega arith) (λ i m. h (suc i) (omega arith)) k
 
-made-below :
+pub made-below :
     (N k : ℕ) (bs : List (Block Instr)) → MakesAll N k bs → (j : ℕ) → j < length (made-from N bs) → getD (made-from N bs) j (nm 0) .0 < N
 unfolding made-from
 made-below N k [] m j l = absurd (omega arith)

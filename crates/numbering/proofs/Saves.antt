@@ -231,7 +231,7 @@ unfolding new-number
 see-temps s x none = refl
 see-temps s x (some v) = refl
 
-gen-new-vals-temps : (s : State) (xs : List NameIx) → gen-new-vals s xs .temps ≡ s .temps
+pub gen-new-vals-temps : (s : State) (xs : List NameIx) → gen-new-vals s xs .temps ≡ s .temps
 unfolding gen-new-vals see
 gen-new-vals-temps s [] = refl
 gen-new-vals-temps s (x ∷ xs) = gen-new-vals-temps (see s x) xs ∙ see-temps s x (s .env x)

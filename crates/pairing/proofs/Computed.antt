@@ -28,7 +28,7 @@ use Rattle.numbering.specs.Simplify.{folded, fold1, fold2, is-int, is-bool, ide
 use Rattle.numbering.specs.State.{start, new-number, update-env, rehome, see, gen-new-vals, number-of, home-of, known-value, known-expr, known}
 use Rattle.machine.specs.Machine.{Answer, value, go-on, halt, at-end, at-ret, at-halt, at-unset, at-division, before, stopped, tick, assign, happens, read-all, finish, take-value, answered, perform, ask, acknowledged, tell, leave, choose, act, step, run-block, nth, arrive, passes, through, advance-from, advance, begin, iterate, run-with, run}
 use Rattle.machine.specs.Examples.{Summary, summary, store-of, function-of, event}
-use Rattle.pairing.specs.Demand.{next-block, stop, shown, filed, saves-before, count-dests}
+use Rattle.pairing.specs.Demand.{next-block, stop, shown, saves-passed, saves-before, count-dests}
 use Rattle.pairing.specs.Premises.{are-bytes, typed, all-set, all-same}
 use Rattle.pairing.proofs.Instances.{Instance, instance}
 
@@ -173,14 +173,14 @@ rewritten-blocks s = lvn (function-of (accept limits s)) .blocks
 
 -- the loop's block passed twice; before the division, before its save, and where nothing stopped
 pub counted :
-    filed (rewritten-blocks loop) (0 ∷ 0 ∷ []) ∷
-    filed (rewritten-blocks loop) (1 ∷ 0 ∷ []) ∷
+    saves-passed (rewritten-blocks loop) (0 ∷ 0 ∷ []) ∷
+    saves-passed (rewritten-blocks loop) (1 ∷ 0 ∷ []) ∷
     saves-before 2 (rewritten-blocks division) (stopped (at-division 2 by-zero) 0 2) ∷
     saves-before 2 (rewritten-blocks division) (stopped (at-division 2 by-zero) 0 1) ∷
     saves-before 2 (rewritten-blocks division) (before 0) ∷
     [] ≡
     2 ∷ 1 ∷ 1 ∷ 0 ∷ 0 ∷ []
-unfolding code1 code2 with-code one-of two-of upd asInt asBool with-both with-one divide shift apply1 apply2 eval typeOf inRange addW subW mulW divW ltW value-of form digit-value bytes-from hex name-index literal arguments operands instr block name names length-field end contents read give _>>=_ here field text if-there times type-in id-bytes shape-of any at-most below length-test version-test names-test type-test text-length-test text-test saves-test code-test count-test literal-test all-text well-formed undigited reserved same-bytes among obeys well-typed body-types block-types accept reads numbered make-val val-to-instr save save-at handle-overwrite find get-val-num number-dest place by-form instr-lvn block-lvn is-save count-saves blocks-lvn saved-in made-from lvn folded fold1 fold2 is-int is-bool identity ordered simplify1 simplify2 simplify start new-number update-env rehome see gen-new-vals number-of home-of known-value known-expr known tick assign happens read-all finish take-value answered perform ask acknowledged tell leave choose act step run-block nth arrive passes through advance-from advance begin iterate run-with run xor ℕ-discrete are-bytes typed all-set all-same filed saves-before
+unfolding code1 code2 with-code one-of two-of upd asInt asBool with-both with-one divide shift apply1 apply2 eval typeOf inRange addW subW mulW divW ltW value-of form digit-value bytes-from hex name-index literal arguments operands instr block name names length-field end contents read give _>>=_ here field text if-there times type-in id-bytes shape-of any at-most below length-test version-test names-test type-test text-length-test text-test saves-test code-test count-test literal-test all-text well-formed undigited reserved same-bytes among obeys well-typed body-types block-types accept reads numbered make-val val-to-instr save save-at handle-overwrite find get-val-num number-dest place by-form instr-lvn block-lvn is-save count-saves blocks-lvn saved-in made-from lvn folded fold1 fold2 is-int is-bool identity ordered simplify1 simplify2 simplify start new-number update-env rehome see gen-new-vals number-of home-of known-value known-expr known tick assign happens read-all finish take-value answered perform ask acknowledged tell leave choose act step run-block nth arrive passes through advance-from advance begin iterate run-with run xor ℕ-discrete are-bytes typed all-set all-same saves-passed saves-before
 counted = refl
 
 -- a stop is shown by its kind, a division by id and cause, and where it stands in the block is not

@@ -19,3 +19,4 @@ pub mod Rules
 pub mod Accepted
 pub mod Instances
 pub mod Computed
+pub mod Theorems

@@ -11,7 +11,7 @@ use Rattle.record.specs.Record.{Instr, Block}
 use Rattle.numbering.specs.Number.{count-saves}
 use Rattle.machine.specs.Machine.{Store, Answer, Stop, at-end, at-unset, Mach, Out, run-block, before, stopped, Run, nth, arrived, arrive, passes, through, advance-from, advance, begin, iterate, run-with}
 use Rattle.pairing.specs.Joint.{Setting, Paired, start-joint, PairedBlocks, no-blocks, block-pair}
-use Rattle.pairing.specs.Demand.{stop, shown, saves-field, filed, saves-before, Agree}
+use Rattle.pairing.specs.Demand.{stop, shown, saves-field, saves-passed, saves-before, Agree}
 use Rattle.pairing.proofs.Relation.{StartsIn, start-valuation, start-related}
 use Rattle.pairing.proofs.Steps.{Alike, alike-by}
 use Rattle.pairing.proofs.Blocks.{Left, both-fall, both-leap, both-break, breaks-unset, block-left}
@@ -35,11 +35,11 @@ paired-at (block-pair h s r) (suc b) = paired-at r b
 data Reached (Γ : Setting) (cs : List (Block Instr)) : Run → Run → Type 0 where
   both-before :
       {b : ℕ} {l : List ℕ} {m₁ m₂ : Mach} →
-      Alike Γ (filed cs l) m₁ m₂ →
+      Alike Γ (saves-passed cs l) m₁ m₂ →
       Reached Γ cs (record { place = before b; passed = l; mach = m₁ }) (record { place = before b; passed = l; mach = m₂ })
   both-stopped :
       {s : Stop} {b p q : ℕ} {l : List ℕ} {m₁ m₂ : Mach} →
-      Alike Γ (filed cs l + saves-before (Γ .names) cs (stopped s b q)) m₁ m₂ →
+      Alike Γ (saves-passed cs l + saves-before (Γ .names) cs (stopped s b q)) m₁ m₂ →
       Reached Γ cs (record { place = stopped s b p; passed = l; mach = m₁ }) (record { place = stopped s b q; passed = l; mach = m₂ })
   stopped-unset :
       {b p : ℕ} {l : List ℕ} {m₁ : Mach} {r : Run} →
@@ -49,18 +49,18 @@ module _ (Γ : Setting) (cs : List (Block Instr)) where
   -- past the last block
   ended-reached :
       (b : ℕ) (l : List ℕ) (m₁ m₂ : Mach) →
-      Alike Γ (filed cs l) m₁ m₂ →
+      Alike Γ (saves-passed cs l) m₁ m₂ →
       Reached Γ cs (record { place = stopped at-end b 0; passed = l; mach = m₁ })
       (record { place = stopped at-end b 0; passed = l; mach = m₂ })
   unfolding saves-before count-saves
   ended-reached b l m₁ m₂ a =
-      let n : filed cs l ≡ filed cs l + saves-before (Γ .names) cs (stopped at-end b 0) = omega arith in
+      let n : saves-passed cs l ≡ saves-passed cs l + saves-before (Γ .names) cs (stopped at-end b 0) = omega arith in
       both-stopped (alike-by n a)
 
   arrived-reached :
       (o₁ o₂ : Option (Block Instr)) (b : ℕ) (l : List ℕ) (m₁ m₂ : Mach) →
       At Γ o₁ o₂ →
-      Alike Γ (filed cs l) m₁ m₂ →
+      Alike Γ (saves-passed cs l) m₁ m₂ →
       Reached Γ cs (record { place = arrived o₁ b; passed = l; mach = m₁ })
       (record { place = arrived o₂ b; passed = l; mach = m₂ })
   arrived-reached o₁ o₂ b l m₁ m₂ neither a = ended-reached b l m₁ m₂ a
@@ -71,8 +71,8 @@ module _ (Γ : Setting) (cs : List (Block Instr)) where
       (b : ℕ) (l : List ℕ) (c : Block Instr) →
       nth cs b ≡ some c →
       c .saves ≡ count-saves (Γ .names) (c .body) →
-      filed cs l + count-saves (Γ .names) (c .body) ≡ filed cs (b ∷ l)
-  unfolding filed
+      saves-passed cs l + count-saves (Γ .names) (c .body) ≡ saves-passed cs (b ∷ l)
+  unfolding saves-passed
   filed-passed b l c p s =
       let q : saves-field (nth cs b) ≡ c .saves = ap saves-field p in
       omega (arith, s)
@@ -81,7 +81,7 @@ module _ (Γ : Setting) (cs : List (Block Instr)) where
 module _ (Γ : Setting) (bs cs : List (Block Instr)) (few : Γ .args ≤ Γ .names) (paired : PairedBlocks Γ bs cs) where
   arrive-reached :
       (b : ℕ) (l : List ℕ) (m₁ m₂ : Mach) →
-      Alike Γ (filed cs l) m₁ m₂ →
+      Alike Γ (saves-passed cs l) m₁ m₂ →
       Reached Γ cs (record { place = arrive bs b; passed = l; mach = m₁ })
       (record { place = arrive cs b; passed = l; mach = m₂ })
   unfolding arrive
@@ -91,7 +91,7 @@ module _ (Γ : Setting) (bs cs : List (Block Instr)) (few : Γ .args ≤ Γ .nam
       (b : ℕ) (l : List ℕ) (c : Block Instr) (o₁ o₂ : Out) →
       nth cs b ≡ some c →
       c .saves ≡ count-saves (Γ .names) (c .body) →
-      Left Γ (filed cs l) (c .body) 0 o₁ o₂ →
+      Left Γ (saves-passed cs l) (c .body) 0 o₁ o₂ →
       Reached Γ cs (passes bs b l o₁) (passes cs b l o₂)
   unfolding passes saves-before
   passes-reached b l c o₁ o₂ p s (both-fall {m₁ = m₁} {m₂ = m₂} a) =
@@ -102,20 +102,20 @@ module _ (Γ : Setting) (bs cs : List (Block Instr)) (few : Γ .args ≤ Γ .nam
       let e : r ≡ d = omega (arith, q) in
       let n :
       count-saves (Γ .names) (take d (c .body)) ≡ saves-before (Γ .names) cs (stopped t b r) = rw (p, e) in
-      both-stopped (alike-by (ap (λ (x : ℕ). filed cs l + x) n) a)
+      both-stopped (alike-by (ap (λ (x : ℕ). saves-passed cs l + x) n) a)
   passes-reached b l c o₁ o₂ p s breaks-unset = stopped-unset
 
   through-reached :
       (b : ℕ) (l : List ℕ) (m₁ m₂ : Mach) (o₁ o₂ : Option (Block Instr)) →
       nth cs b ≡ o₂ →
       At Γ o₁ o₂ →
-      Alike Γ (filed cs l) m₁ m₂ →
+      Alike Γ (saves-passed cs l) m₁ m₂ →
       Reached Γ cs (through (Γ .ctx) bs b l m₁ o₁) (through (Γ .ctx) cs b l m₂ o₂)
   unfolding through
   through-reached b l m₁ m₂ o₁ o₂ p neither a = ended-reached Γ cs b l m₁ m₂ a
   through-reached b l m₁ m₂ o₁ o₂ p (each {b = x} {c = y} h s) a =
       passes-reached b l y (run-block (Γ .ctx) (x .body) 0 m₁) (run-block (Γ .ctx) (y .body) 0 m₂) p s
-      (block-left h (start-valuation (Γ .args) (m₁ .store)) m₁ m₂ (filed cs l) 0 0
+      (block-left h (start-valuation (Γ .args) (m₁ .store)) m₁ m₂ (saves-passed cs l) 0 0
       (start-related Γ (m₁ .store) (m₂ .store) few (a .stores)) (a .ahead))
 
   advance-reached : (r₁ r₂ : Run) → Reached Γ cs r₁ r₂ → Reached Γ cs (advance (Γ .ctx) bs r₁) (advance (Γ .ctx) cs r₂)
@@ -140,7 +140,7 @@ module _ (Γ : Setting) (bs cs : List (Block Instr)) (few : Γ .args ≤ Γ .nam
       StartsIn Γ σ₁ σ₂ →
       (answers : List Answer) (n : ℕ) →
       Reached Γ cs (run-with (Γ .ctx) bs σ₁ answers n) (run-with (Γ .ctx) cs σ₂ answers n)
-  unfolding run-with begin filed
+  unfolding run-with begin saves-passed
   runs-reached σ₁ σ₂ s answers n =
       iterate-reached (begin bs σ₁ answers) (begin cs σ₂ answers)
       (arrive-reached 0 [] (starting σ₁ answers) (starting σ₂ answers)

@@ -31,9 +31,9 @@ body-of none = []
 body-of (some b) = b .body
 
 -- "the saves filed for the blocks passed, a block counted each time it is passed"
-unfoldable pub filed : List (Block Instr) → List ℕ → ℕ
-filed bs [] = 0
-filed bs (b ∷ passed) = saves-field (nth bs b) + filed bs passed
+unfoldable pub saves-passed : List (Block Instr) → List ℕ → ℕ
+saves-passed bs [] = 0
+saves-passed bs (b ∷ passed) = saves-field (nth bs b) + saves-passed bs passed
 
 -- "where an instruction stops the runs, the saves standing before it in its block are added"
 unfoldable pub saves-before : ℕ → List (Block Instr) → Place → ℕ
@@ -47,7 +47,7 @@ pub record Agree (N : ℕ) (bs : List (Block Instr)) (r₁ r₂ : Run) : Type 0 
   pub place : shown (r₂ .place) ≡ shown (r₁ .place)
   pub answers : r₂ .mach .answers ≡ r₁ .mach .answers
   pub passed : r₂ .passed ≡ r₁ .passed
-  pub steps : r₂ .mach .steps ≡ r₁ .mach .steps + (filed bs (r₂ .passed) + saves-before N bs (r₂ .place))
+  pub steps : r₂ .mach .steps ≡ r₁ .mach .steps + (saves-passed bs (r₂ .passed) + saves-before N bs (r₂ .place))
 
 -- "the same typed store in which every argument is set"; made names may hold anything
 pub record Starts (f : Function) (σ₁ σ₂ : Store) : Type 0 where

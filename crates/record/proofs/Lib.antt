@@ -9,3 +9,5 @@ pub mod Written
 pub mod Typed
 pub mod Takes
 pub mod ReadFrom
+pub mod Sizes
+pub mod Longest

@@ -1,0 +1,159 @@
+-- Start here: what is proved of an accepted record and its rewriting, each theorem with its sentence.
+-- The statements are in specs/Demand.antt; this file puts together what the other files prove.
+use Prim.Native.Nat.{ℕ, suc, _+_, _<_, _≤_}
+use mathlib.Core.Path.{_≡_, refl, sym, ap, _∙_, subst}
+use mathlib.Core.Logic.{_≢_}
+use mathlib.Core.List.{List, [], _∷_, _++_, map, map-append}
+use native.Mathlib.Nat.{add-zero}
+use lib.ListN.{length, getD, length-map}
+use Rattle.record.specs.declared.NameIx.{NameIx}
+use Rattle.record.specs.Record.{Bytes, Instr, Placed, Block, Name, Record, Function, plain, function, texts, names-of, type-in, arg, limits, wide}
+use Rattle.record.specs.Reader.{got}
+use Rattle.record.specs.Read.{read}
+use Rattle.record.specs.Typing.{accept}
+use Rattle.record.specs.Write.{bytes}
+use Rattle.record.specs.Good.{RecordOk}
+use Rattle.record.proofs.Accepted.{read-ok}
+use Rattle.record.proofs.ReadBack.{reads-back}
+use Rattle.record.proofs.ReadFrom.{accept-from}
+use Rattle.record.proofs.Typed.{accept-typed}
+use Rattle.numbering.specs.Number.{block-lvn, count-saves, blocks-lvn, lvn}
+use Rattle.numbering.specs.State.{start}
+use Rattle.numbering.specs.Made.{made-name, made-names, made, rewriting}
+use Rattle.numbering.specs.declared.Rewritten.the-variants.{Room}
+use Rattle.numbering.specs.Rewrite.{rewritten-bytes, rewrite}
+use Rattle.numbering.specs.Program.{most-input, buffer-size}
+use Rattle.numbering.proofs.Wide.{rewriting-passes}
+use Rattle.numbering.proofs.Size.{rewriting-room}
+use Rattle.numbering.proofs.Output.{accepted-bytes, buffer-suffices}
+use Rattle.numbering.proofs.Made.{all-saves, made-length, saves-of, saves-args, names-from, saves-dests, lvn-makes}
+use Rattle.numbering.proofs.Differ.{texts-differ}
+use Rattle.pairing.specs.Demand.{RunAlike, SavesBounded}
+use Rattle.pairing.specs.Fit.{All}
+use Rattle.pairing.proofs.Accepted.{accepted-fit}
+use Rattle.pairing.proofs.Functions.{fit-blocks, saves-bounded, demand3}
+
+-- a list of bytes that check accepts, and the record that it is
+pub record Accepted (s : List ℕ) (r : Record Placed) : Type 0 where
+  pub bytes : Bytes s
+  pub end : ℕ
+  pub accepted : accept limits s ≡ got r end
+
+-- Demand 3: the function of an accepted record and its rewriting run alike, from every typed store in which every argument is set,
+-- with every list of answers, over every number of blocks, step counts included.
+pub runs-alike : (s : List ℕ) (r : Record Placed) → Accepted s r → RunAlike (function (plain r)) (lvn (function (plain r)))
+runs-alike s r a = demand3 (function (plain r)) (accepted-fit s (a .bytes) r (a .end) (a .accepted))
+
+-- No block of the rewriting has more saves than the same block of the input has instructions with a destination.
+pub few-saves : (s : List ℕ) (r : Record Placed) → Accepted s r → SavesBounded (function (plain r)) (lvn (function (plain r)))
+few-saves s r a = saves-bounded (function (plain r)) (accepted-fit s (a .bytes) r (a .end) (a .accepted))
+
+-- An accepted record is the bytes of what is read of it.
+pub is-its-bytes : (s : List ℕ) (r : Record Placed) → Accepted s r → bytes (plain r) ≡ s
+is-its-bytes s r a = accept-from limits s (a .bytes) r (a .end) (a .accepted)
+
+good : (s : List ℕ) (r : Record Placed) → Accepted s r → RecordOk limits (plain r)
+good s r a = read-ok limits s r (a .end) (accept-typed limits s r (a .end) (a .accepted) .reads)
+
+-- 65,536 bytes suffice for the rewriting of an input of at most 8,192.
+pub buffer-is-enough :
+    (s : List ℕ) (r : Record Placed) → Accepted s r → length s ≤ most-input → length (rewritten-bytes r) ≤ buffer-size
+unfolding rewritten-bytes
+buffer-is-enough s r a l =
+    rewriting-room (plain r) (good s r a) (subst (λ t. length t ≤ 8192) (sym (is-its-bytes s r a)) l)
+
+-- So the program never refuses an input for want of room.
+pub program-has-room :
+    (s out : List ℕ) → Bytes s → length s ≤ most-input → buffer-size ≤ length out → (m : ℕ) → rewrite s out ≡ Room m → ⊥
+program-has-room = buffer-suffices
+
+-- ---- the bytes of the rewriting
+-- the rewriting as a record has the rewriting as its function
+made-types :
+    (r : Record Instr) (k : ℕ) (xs : List NameIx) →
+    map (λ (x : Name). x .type) (made-names r k xs) ≡ map (type-in (function r .types)) xs
+unfolding made-names made-name
+made-types r k [] = refl
+made-types r k (x ∷ xs) = ap (λ (ts : List ℕ). type-in (function r .types) x ∷ ts) (made-types r (suc k) xs)
+
+pub function-of-rewriting : (r : Record Instr) → function (rewriting r) ≡ lvn (function r)
+unfolding rewriting lvn
+function-of-rewriting r =
+    let old = map (λ (x : Name). x .type) (r .names) in
+    let types : map (λ (x : Name). x .type) (r .names ++ made-names r 0 (made r)) ≡ old ++ map (type-in (function r .types)) (made r) =
+    map-append (λ (x : Name). x .type) (r .names) (made-names r 0 (made r)) ∙ ap (λ (ts : List ℕ). old ++ ts) (made-types r 0 (made r)) in
+    ap (λ (ts : List ℕ). record { args = r .args; types = ts; blocks = lvn (function r) .blocks }) types
+
+-- What is written of a rewriting is read back, by the same definition of reading with the wider limits, as the rewriting:
+-- its function and its texts.
+pub record ReadsAsRewriting (r : Record Placed) : Type 0 where
+  pub back : Record Placed
+  pub reads : read wide (rewritten-bytes r) 0 ≡ got back (length (rewritten-bytes r))
+  pub same : plain back ≡ rewriting (plain r)
+  pub rewritten : function (plain back) ≡ lvn (function (plain r))
+
+pub reads-as-rewriting : (s : List ℕ) (r : Record Placed) → Accepted s r → ReadsAsRewriting r
+unfolding rewritten-bytes
+reads-as-rewriting s r a =
+    let q = reads-back wide (rewriting (plain r)) (rewriting-passes (plain r) (good s r a)) in
+    record {
+      back = q .back;
+      reads = q .reads;
+      same = q .same;
+      rewritten = ap function (q .same) ∙ function-of-rewriting (plain r);
+    }
+
+-- What is written are bytes.
+pub written-are-bytes : (s : List ℕ) (r : Record Placed) → Accepted s r → Bytes (rewritten-bytes r)
+written-are-bytes s r a = accepted-bytes s (a .bytes) r (a .end) (a .accepted)
+
+-- Demand 3 over bytes: the function that is read from the input and the function that is read from the output run alike.
+pub bytes-run-alike :
+    (s : List ℕ) (r : Record Placed) (a : Accepted s r) →
+    RunAlike (function (plain r)) (function (plain (reads-as-rewriting s r a .back)))
+bytes-run-alike s r a =
+    subst (λ g. RunAlike (function (plain r)) g) (sym (reads-as-rewriting s r a .rewritten)) (runs-alike s r a)
+
+-- ---- the names and the counts of the rewriting
+-- As many names are made as there are saves in all blocks. The K-th save, in the order of the blocks, makes the name N + K, which has
+-- the text `_x_lvnK` and the type of the name x that it saves.
+pub record NamesMade (r : Record Placed) : Type 0 where
+  pub count : length (made (plain r)) ≡ all-saves (rewriting (plain r) .blocks)
+  pub table : rewriting (plain r) .names ≡ plain r .names ++ made-names (plain r) 0 (made (plain r))
+  pub saved : map (λ i. arg i 0) (saves-of (length (r .names)) (rewriting (plain r) .blocks)) ≡ made (plain r)
+  pub indexes :
+      map (λ i. i .dest) (saves-of (length (r .names)) (rewriting (plain r) .blocks)) ≡
+      names-from (length (r .names)) (length (made (plain r)))
+
+pub names-made : (s : List ℕ) (r : Record Placed) → Accepted s r → NamesMade r
+unfolding rewriting lvn
+names-made s r a =
+    let f = function (plain r) in
+    let N : names-of f ≡ length (r .names) = length-map (r .names) (λ x. x .type) in
+    let fit = accepted-fit s (a .bytes) r (a .end) (a .accepted) in
+    let makes = lvn-makes f (fit-blocks (names-of f) (type-in (f .types)) (f .blocks) (fit .blocks)) in
+    let dests : map (λ i. i .dest) (saves-of (names-of f) (lvn f .blocks)) ≡ names-from (names-of f) (length (made (plain r))) =
+    saves-dests (names-of f) 0 (lvn f .blocks) makes ∙ ap (λ n. names-from n (length (made (plain r)))) (add-zero (names-of f)) in
+    record {
+      count = made-length f (plain r .blocks) 0;
+      table = refl;
+      saved = subst (λ n. map (λ i. arg i 0) (saves-of n (lvn f .blocks)) ≡ made (plain r)) N (saves-args (names-of f) (lvn f .blocks));
+      indexes = subst (λ n. map (λ i. i .dest) (saves-of n (lvn f .blocks)) ≡ names-from n (length (made (plain r)))) N dests;
+    }
+
+-- All names of the rewriting have different texts: made names differ from each other and from the input's.
+pub all-texts-differ :
+    (s : List ℕ) (r : Record Placed) → Accepted s r →
+    (i j : ℕ) → i < j → j < length (rewriting (plain r) .names) →
+    getD (texts (rewriting (plain r))) i [] ≢ getD (texts (rewriting (plain r))) j []
+all-texts-differ s r a = texts-differ wide [] (rewriting (plain r) .names) (rewriting-passes (plain r) (good s r a) .names)
+
+-- The saves field of each block of a rewriting is the number of its instructions with a made destination.
+pub saves-fields :
+    (f : Function) → All (λ (b : Block Instr). b .saves ≡ count-saves (names-of f) (b .body)) (lvn f .blocks)
+unfolding lvn blocks-lvn
+saves-fields f = from 0 (f .blocks)
+  where
+    from : (k : ℕ) (bs : List (Block Instr)) → All (λ (b : Block Instr). b .saves ≡ count-saves (names-of f) (b .body)) (blocks-lvn f k bs)
+    from k [] = tt
+    from k (b ∷ bs) = (refl, from (block-lvn (names-of f) (type-in (f .types)) (start (f .args) k) (b .body) .temps) bs)
