@@ -11,3 +11,4 @@ pub mod Takes
 pub mod ReadFrom
 pub mod Sizes
 pub mod Longest
+pub mod Following
