@@ -12,3 +12,4 @@ pub mod ReadFrom
 pub mod Sizes
 pub mod Longest
 pub mod Following
+pub mod Decode

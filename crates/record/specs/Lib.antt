@@ -16,3 +16,4 @@ pub mod Samples
 pub mod Forms
 pub mod View
 pub mod Ranged
+pub mod Decode

@@ -1,0 +1,52 @@
+use lib.ListN.{length-set}
+use borrow.Author.Needs.{needs}
+use Prim.Native.Nat.{ℕ, zero, suc, _+_, _-_, _*_, _<_, _≤_}
+use mathlib.Core.Path.{_≡_, refl, sym, ap, _∙_}
+use native.Mathlib.Omega.{arith}
+use lib.ListN.{length}
+use Rattle.lines.proofs.decode.Statement.{statement}
+use Rattle.lines.proofs.decode.Tie as tie
+use Rattle.lines.proofs.decode.Reads as reads
+use Rattle.lines.proofs.decode.Lts as lts
+use Rattle.lines.proofs.digit.Reads as digit-reads
+
+abbrev Inv-loop : tie.InvT-loop
+Inv-loop text at out₀ p₀ n₀ out p n = (length out ≡ length out₀) × (n ≤ length out)
+
+abbrev μ-loop : tie.MeasureT-loop
+μ-loop text at out₀ p₀ n₀ out p n = length out₀ - n
+
+-- src/lib.rt:42:5
+loop-again : tie.Need-loop-again Inv-loop μ-loop
+loop-again c = (simp length-set (omega arith), simp length-set (omega arith))
+
+pub decode-spec : {M : Type 1} → statement M
+decode-spec =
+    tie.close
+    (tie.spec
+    Inv-loop
+    μ-loop
+    (λ c. search needs)
+    (λ c. search needs)
+    (λ c. search needs)
+    (λ c. search needs)
+    (λ c. search needs)
+    (λ c. search needs)
+    (λ c. search needs)
+    (λ c κs. search needs)
+    (λ c. search needs)
+    (λ c. search needs)
+    (λ c κs. search needs)
+    (λ c. search needs)
+    (λ c. search needs)
+    (λ c. search needs)
+    (λ c. search needs)
+    (λ c. search needs)
+    (λ c. search needs)
+    (λ c. search needs)
+    (λ c. search needs)
+    (λ c. search needs)
+    (λ c. search needs)
+    loop-again
+    (λ c. search needs)
+    (λ c. search needs))
