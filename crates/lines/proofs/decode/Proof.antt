@@ -6,9 +6,6 @@ use native.Mathlib.Omega.{arith}
 use lib.ListN.{length}
 use Rattle.lines.proofs.decode.Statement.{statement}
 use Rattle.lines.proofs.decode.Tie as tie
-use Rattle.lines.proofs.decode.Reads as reads
-use Rattle.lines.proofs.decode.Lts as lts
-use Rattle.lines.proofs.digit.Reads as digit-reads
 
 abbrev Inv-loop : tie.InvT-loop
 Inv-loop text at out₀ p₀ n₀ out p n = (length out ≡ length out₀) × (n ≤ length out)
@@ -16,7 +13,6 @@ Inv-loop text at out₀ p₀ n₀ out p n = (length out ≡ length out₀) × (n
 abbrev μ-loop : tie.MeasureT-loop
 μ-loop text at out₀ p₀ n₀ out p n = length out₀ - n
 
--- src/lib.rt:42:5
 loop-again : tie.Need-loop-again Inv-loop μ-loop
 loop-again c = (simp length-set (omega arith), simp length-set (omega arith))
 

@@ -5,8 +5,6 @@ use native.Mathlib.Omega.{arith}
 use lib.ListN.{length}
 use Rattle.lines.proofs.number.Statement.{statement}
 use Rattle.lines.proofs.number.Tie as tie
-use Rattle.lines.proofs.number.Reads as reads
-use Rattle.lines.proofs.number.Lts as lts
 
 abbrev Inv-loop : tie.InvT-loop
 Inv-loop text at p₀ value₀ p value = value < 1000000000
