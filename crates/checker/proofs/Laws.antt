@@ -54,9 +54,9 @@ length-types s at n =
     length-map (items (name-from s) (name-end s) at n) (λ (x : Name). x .type) ∙ length-items (name-from s) (name-end s) n at
 
 -- an id has few bytes
-pub id-width : (v w : ℕ) → w ≡ id-bytes v → w ≤ 8
+pub few-id-bytes : (v w : ℕ) → w ≡ id-bytes v → w ≤ 8
 unfolding id-bytes
-id-width v w e = omega arith
+few-id-bytes v w e = omega arith
 
 -- ---- the second pass; v: the version, n: the number of names, at: where they end, b: the number of blocks
 pub typed-is :

@@ -1,6 +1,6 @@
 use borrow.Author.Needs.{needs}
 use native.Mathlib.Omega.{arith}
-use Rattle.checker.proofs.Laws.{id-width, typed-is}
+use Rattle.checker.proofs.Laws.{few-id-bytes, typed-is}
 use Rattle.checker.proofs.typed.Statement.{statement}
 use Rattle.checker.proofs.typed.Tie as tie
 
@@ -9,7 +9,7 @@ typed-blocks-requires c κs =
     let b = c .before in
     let filled = b .before .before in
     let n = filled .before .before in (
-      id-width _ _ (n .before .id-bytes .ensures),
+      few-id-bytes _ _ (n .before .id-bytes .ensures),
       omega (arith, filled .fill-types .ensures .1, n .be16 .ensures .1, b .be162 .ensures .1),
     )
 

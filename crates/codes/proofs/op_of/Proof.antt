@@ -1,0 +1,31 @@
+use mathlib.Core.Path.{sym, ap}
+use native.Mathlib.Omega.{arith}
+use borrow.Author.Needs.{needs}
+use Rattle.codes.specs.Op.{op-of}
+use Rattle.codes.proofs.Op.{new-op}
+use Rattle.codes.proofs.op_of.Statement.{statement}
+use Rattle.codes.proofs.op_of.Tie as tie
+
+returns : tie.Need-returns
+unfolding op-of
+returns c = ap op-of (sym (c .match .keys1))
+
+returns-5 : tie.Need-returns-5
+returns-5 c =
+    let c5 = c .before .before .before .before .before in
+    new-op (c5 .args .code) (omega arith) (omega arith)
+
+pub op-of-spec : {M : Type 1} → statement M
+op-of-spec =
+    tie.close
+    (tie.spec
+    (λ c κs. search needs)
+    (λ c κs. search needs)
+    (λ c κs. search needs)
+    (λ c κs. search needs)
+    returns
+    (λ c. search needs)
+    (λ c. search needs)
+    (λ c. search needs)
+    returns-5
+    (λ c. search needs))

@@ -1,0 +1,6 @@
+pub mod Put
+pub mod Numbers
+pub mod Wrote
+pub mod Digits
+pub mod Made
+pub mod Parts

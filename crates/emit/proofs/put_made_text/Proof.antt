@@ -1,0 +1,30 @@
+use lib.ListN.{take, drop}
+use borrow.Author.Needs.{needs}
+use Rattle.emit.proofs.Made.{text-wrote}
+use Rattle.emit.proofs.put_made_text.Statement.{statement}
+use Rattle.emit.proofs.put_made_text.Tie as tie
+
+returns : tie.Need-returns
+returns c =
+    let v = c .before .before .before .before .before .before in
+    let u = v .before .before .before .before in
+    let w = u .before .before .before .before in
+    let a = w .before .before .before .before .args in
+    let t = take (a .n) (drop (a .from) (a .src .now)) in (
+      text-wrote t (a .k) (w .put-u8 .ensures) (u .copy-bytes .ensures .0) (v .put-u32 .ensures)
+          (c .before .before .put-digits .ensures .0),
+      search needs,
+    )
+
+pub put-made-text-spec : {M : Type 1} → statement M
+put-made-text-spec =
+    tie.close
+    (tie.spec
+    (λ c κs. search needs)
+    (λ c. search needs)
+    (λ c κs. search needs)
+    (λ c κs. search needs)
+    (λ c. search needs)
+    (λ c κs. search needs)
+    (λ c. search needs)
+    returns)

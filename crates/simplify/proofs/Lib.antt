@@ -1,0 +1,3 @@
+pub mod Folds
+pub mod Identities
+pub mod Others

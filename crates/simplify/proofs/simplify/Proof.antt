@@ -1,0 +1,61 @@
+-- `simplify::simplify` meets its contract.
+use borrow.Author.Needs.{needs}
+use Rattle.numbering.specs.View.{expr-of}
+use Rattle.simplify.proofs.simplify.Statement.{statement}
+use Rattle.simplify.proofs.simplify.Tie as tie
+
+pub simplify-spec : {M : Type 1} → statement M
+unfolding expr-of
+simplify-spec =
+    tie.close
+    (tie.spec
+    (λ c. search needs)
+    (λ c. search needs)
+    (λ c κs. search needs)
+    (λ c. search needs)
+    (λ c κs. search needs)
+    (λ c. search needs)
+    (λ c κs. search needs)
+    (λ c. search needs)
+    (λ c κs. search needs)
+    (λ c. search needs)
+    (λ c κs. search needs)
+    (λ c. search needs)
+    (λ c κs. search needs)
+    (λ c. search needs)
+    (λ c κs. search needs)
+    (λ c. search needs)
+    (λ c κs. search needs)
+    (λ c. search needs)
+    (λ c κs. search needs)
+    (λ c. search needs)
+    (λ c κs. search needs)
+    (λ c. search needs)
+    (λ c κs. search needs)
+    (λ c. search needs)
+    (λ c κs. search needs)
+    (λ c. search needs)
+    (λ c κs. search needs)
+    (λ c. search needs)
+    (λ c. search needs)
+    (λ c. search needs)
+    (λ c. search needs)
+    (λ c κs. search needs)
+    (λ c. rw (c .enum-told .given .1))
+    (λ c. rw (c .before .before .v .given .1) (c .simplify-two .ensures))
+    (λ c. rw (c .before .before .v2 .given .1) (c .simplify-two2 .ensures))
+    (λ c. rw (c .before .before .v3 .given .1) (c .simplify-two3 .ensures))
+    (λ c. rw (c .before .before .v4 .given .1) (c .simplify-two4 .ensures))
+    (λ c. rw (c .before .before .v5 .given .1) (c .simplify-one .ensures))
+    (λ c. rw (c .before .before .v6 .given .1) (c .simplify-two5 .ensures))
+    (λ c. rw (c .before .before .v7 .given .1) (c .simplify-two6 .ensures))
+    (λ c. rw (c .before .before .v8 .given .1) (c .simplify-two7 .ensures))
+    (λ c. rw (c .before .before .v9 .given .1) (c .simplify-two8 .ensures))
+    (λ c. rw (c .before .before .v10 .given .1) (c .simplify-two9 .ensures))
+    (λ c. rw (c .before .before .v11 .given .1) (c .simplify-two10 .ensures))
+    (λ c. rw (c .before .before .v12 .given .1) (c .simplify-two11 .ensures))
+    (λ c. rw (c .before .before .v13 .given .1) (c .simplify-one2 .ensures))
+    (λ c. rw (c .enum-told2 .given .1))
+    (λ c. rw (c .enum-told3 .given .1))
+    (λ c. rw (c .enum-told4 .given .1))
+    (λ c. rw (c .before .before .v14 .given .1) (c .simplify-two12 .ensures)))

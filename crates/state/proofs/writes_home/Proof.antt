@@ -1,0 +1,23 @@
+use Rattle.state.proofs.Itself.{id-itself, not-itself}
+use Rattle.state.specs.View.{locs-of}
+use Rattle.record.specs.declared.NameIx.{NameIx}
+use lib.Dec.{eqb}
+use mathlib.Core.Path.{_≡_, refl, sym, ap, _∙_}
+use borrow.Author.Needs.{needs}
+use Rattle.state.proofs.writes_home.Statement.{statement}
+use Rattle.state.proofs.writes_home.Tie as tie
+use Rattle.state.proofs.writes_home.Reads as reads
+use Rattle.state.proofs.writes_home.Lts as lts
+use Rattle.state.proofs.home_in.Reads as home-in-reads
+
+returns : tie.Need-returns
+returns c = let w = c .before .before .before .before in
+    let a = w .before .before .before .args in
+    ap (λ (x : NameIx). eqb (x .0) (a .dest .0)) (c .before .before .home-in .ensures) ∙
+    id-itself (locs-of (a .homes .now)) (a .dest) (a .v) _ (w .v .given .1)
+
+returns-2 : tie.Need-returns-2
+returns-2 c = let a = c .before .before .args in not-itself (locs-of (a .homes .now)) (a .dest) (a .v) (c .match .keys2)
+
+pub writes-home-spec : {M : Type 1} → statement M
+writes-home-spec = tie.close (tie.spec (λ c. search needs) (λ c κs. search needs) returns returns-2)

@@ -1,0 +1,4 @@
+pub mod Entries
+pub mod Arms
+pub mod Search
+pub mod Numbers

@@ -1,0 +1,79 @@
+-- Differences and quotients of words as the code has them: by a sum that wraps, and by sizes and signs.
+use Prim.Native.Nat.{ℕ, _+_, _-_, _/_, _%_, _<_, _≤_}
+use mathlib.Core.Path.{_≡_, refl, ap, _∙_}
+use mathlib.Core.Bool.{Bool, true, false, cond, xor, _&&_, Bool·beq}
+use mathlib.Core.Option.{none, some}
+use native.Mathlib.Nat.{div-le-self, lt-of-le-of-lt}
+use native.Mathlib.Omega.{arith}
+use lib.Dec.{eqb}
+use borrow.Author.Tests.{eq-eqb, ne-eqb, le-leb, lt-leb, eqb-true}
+use Rattle.arith.specs.Word.{W, least, minus-one, subW, divW, negative, size}
+use Rattle.arith.specs.Value.{int}
+use Rattle.arith.specs.Operation.{divide}
+use Rattle.words.specs.View.{result-of}
+
+-- the number that b added to wraps back to a
+pub difference : (r a b : ℕ) → r < W → a < W → b < W → (r + b) % W ≡ a → r ≡ subW a b
+unfolding subW
+difference r a b h k l e = omega arith
+
+-- ---- sizes
+module _ (a : ℕ) where
+  pub size-negative : least ≤ a → a < W → subW 0 a ≡ size a
+  unfolding subW
+  size-negative h l = rw (le-leb least a h) (omega arith)
+
+  pub size-positive : a < least → a ≡ size a
+  size-positive h = rw (lt-leb least a h)
+
+  pub size-not-zero : 0 < a → a < W → 0 < size a
+  size-not-zero h l = go (negative a)
+    where
+      go : (n : Bool) → 0 < cond n (W - a) a
+      go true = omega arith
+      go false = omega arith
+
+-- ---- a quotient by its sign
+pub quotient-word : (m n : ℕ) → m < W → m / n < W
+quotient-word m n h = lt-of-le-of-lt (div-le-self m n) h
+
+module _ (a b q : ℕ) (e : q ≡ size a / size b) where
+  pub same-signs : q < W → Bool·beq (negative a) (negative b) ≡ true → q ≡ divW a b
+  unfolding divW xor
+  same-signs h s = go (negative a) (negative b) s ∙ ap (λ (k : ℕ). cond (xor (negative a) (negative b)) ((W - k) % W) (k % W)) e
+    where
+      go : (m n : Bool) → Bool·beq m n ≡ true → q ≡ cond (xor m n) ((W - q) % W) (q % W)
+      go true true f = omega arith
+      go false false f = omega arith
+      go true false f = absurd (let z : _≡_ {A = ℕ} 0 1 = cc in omega arith)
+      go false true f = absurd (let z : _≡_ {A = ℕ} 0 1 = cc in omega arith)
+
+  pub other-signs : Bool·beq (negative a) (negative b) ≡ false → subW 0 q ≡ divW a b
+  unfolding divW xor subW
+  other-signs s = go (negative a) (negative b) s ∙ ap (λ (k : ℕ). cond (xor (negative a) (negative b)) ((W - k) % W) (k % W)) e
+    where
+      go : (m n : Bool) → Bool·beq m n ≡ false → (0 + (W - q)) % W ≡ cond (xor m n) ((W - q) % W) (q % W)
+      go true false f = omega arith
+      go false true f = omega arith
+      go true true f = absurd (let z : _≡_ {A = ℕ} 0 1 = cc in omega arith)
+      go false false f = absurd (let z : _≡_ {A = ℕ} 0 1 = cc in omega arith)
+
+-- ---- which divisions stop
+module _ (a b : ℕ) where
+  pub by-zero-stops : b ≡ 0 → none ≡ result-of (divide a b)
+  unfolding divide result-of
+  by-zero-stops e = rw (eq-eqb b 0 e)
+
+  module _ (not-zero : b ≡ 0 → ⊥) where
+    pub overflow-stops : a ≡ least → b ≡ minus-one → none ≡ result-of (divide a b)
+    unfolding divide result-of
+    overflow-stops e f = rw (ne-eqb b 0 not-zero, eq-eqb a least e, eq-eqb b minus-one f)
+
+    pub others-divide : (a ≡ least → b ≡ minus-one → ⊥) → some (int (divW a b)) ≡ result-of (divide a b)
+    unfolding divide result-of
+    others-divide h = rw (ne-eqb b 0 not-zero, off (eqb a least) (eqb b minus-one) refl refl)
+      where
+        off : (c d : Bool) → eqb a least ≡ c → eqb b minus-one ≡ d → (c && d) ≡ false
+        off true true e f = absurd (h (eqb-true a least e) (eqb-true b minus-one f))
+        off true false e f = refl
+        off false d e f = refl
