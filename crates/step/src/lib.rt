@@ -1,0 +1,367 @@
+// One instruction: its arguments numbered and replaced by their homes, its value formed, simplified and looked up, the save that it owes.
+ghost use mathlib.Core.Path.{_≡_};
+ghost use mathlib.Core.List.{List, [], _∷_};
+ghost use Prim.Native.Nat.{ℕ, _+_, _<_, _≤_};
+ghost use lib.ListN.{length};
+ghost use Rattle.arith.specs.Code.{code1, code2};
+ghost use Rattle.arith.specs.Operation.{constant, one, two};
+ghost use Rattle.record.specs.declared.NameIx.{NameIx};
+ghost use Rattle.record.specs.Record.{type-in};
+ghost use Rattle.record.specs.Form.{value-of, form};
+ghost use Rattle.record.specs.Answer.{literal-of};
+ghost use Rattle.record.specs.View.{instr-of};
+ghost use Rattle.numbering.specs.State.{State};
+ghost use Rattle.numbering.specs.Number.{make-val, rewrite-instr, make-val-instr, make-id-instr, place, unchanged, instr-lvn};
+ghost use Rattle.numbering.specs.View.{expr-of};
+ghost use Rattle.numbering.proofs.Simplified.{MaybeOk};
+ghost use Rattle.simplify.specs.View.{known-of};
+ghost use Rattle.values.specs.Table.{numbered-of};
+ghost use Rattle.state.specs.View.{locs-of, state-of};
+ghost use Rattle.state.specs.Room.{room};
+ghost use Rattle.step.specs.View.{Ready, value-by, Any, const-as, written-as, chosen, by-op, emitted-of};
+use arith::One;
+use arith::Two;
+use numbering::ValNum;
+use numbering::Value;
+use record::Instruction;
+use record::Literal;
+use record::NameIx;
+use record::Op;
+use simplify::Known;
+use state::LvnState;
+use values::Numbered;
+
+// The type byte of float.
+const FLOAT: u8 = 0x02;
+
+// The state behind an instruction, the made name of the save that is written before it, 65535 where none is, and what it is written as.
+pub struct Emitted {
+    pub state: LvnState,
+    pub made: NameIx,
+    pub instr: Instruction,
+}
+
+// ---- the value of an instruction
+
+// Of a const in a name of type t: an int literal of a float is the value "that literal"; floats and chars are new each time.
+pub fn const_value(l: Literal, t: u8) -> Value
+    ensures { λ r. ⌜ ((s : State) → expr-of r ≡ make-val s (constant (value-of t (literal-of l .kind) (literal-of l .bits)))) ⌝ }
+{
+    match l {
+        Literal::Int(z) => {
+            if t == FLOAT {
+                Value::IntAsFloat(z)
+            } else {
+                Value::Int(z)
+            }
+        }
+        Literal::Bool(b) => Value::Bool(b),
+        _ => Value::Unique(0),
+    }
+}
+
+// Of an operator of one argument.
+pub fn value_one(st: LvnState, heads: &[u64], nums: &[u64], o: One, x: NameIx) -> Value
+    requires { ⌜ (st .count ≤ length (now heads)) × (st .count ≤ length (now nums)) ⌝ }
+    ensures { λ r. ⌜
+        (expr-of r ≡ make-val (state-of st (now (heads .entry)) (now (nums .entry))) (one o x)) ×
+        MaybeOk Any 65535 (expr-of r) ⌝ }
+{
+    let a = st.number(x);
+    let ka = st.known(heads, nums, a);
+    let v = simplify::form_one(o, a);
+    simplify::simplify(v, ka, Known::Nothing)
+}
+
+// Of an operator of two arguments.
+pub fn value_two(st: LvnState, heads: &[u64], nums: &[u64], o: Two, x: NameIx, y: NameIx) -> Value
+    requires { ⌜ (st .count ≤ length (now heads)) × (st .count ≤ length (now nums)) ⌝ }
+    ensures { λ r. ⌜
+        (expr-of r ≡ make-val (state-of st (now (heads .entry)) (now (nums .entry))) (two o x y)) ×
+        MaybeOk Any 65535 (expr-of r) ⌝ }
+{
+    let a = st.number(x);
+    let b = st.number(y);
+    let ka = st.known(heads, nums, a);
+    let kb = st.known(heads, nums, b);
+    let v = simplify::form_two(o, a, b);
+    simplify::simplify(v, ka, kb)
+}
+
+// Of an instruction whose dest has the type t, simplified; one that has none, or a new one each time, is Unique.
+pub fn make_val(st: LvnState, heads: &[u64], nums: &[u64], i: Instruction, t: u8) -> Value
+    requires { ⌜ Ready i × ((st .count ≤ length (now heads)) × (st .count ≤ length (now nums))) ⌝ }
+    ensures { λ r. ⌜
+        ((types : NameIx → ℕ) → types (i .dest) ≡ t →
+        expr-of r ≡ value-by (state-of st (now (heads .entry)) (now (nums .entry))) (form types (instr-of i))) ×
+        MaybeOk Any 65535 (expr-of r) ⌝ }
+{
+    let op = i.op;
+    match op {
+        Op::Const => {
+            let l = i.literal;
+            const_value(l, t)
+        }
+        Op::One(o) => value_one(st, heads, nums, o, NameIx(i.args[0])),
+        Op::Two(o) => value_two(st, heads, nums, o, NameIx(i.args[0]), NameIx(i.args[1])),
+        _ => Value::Unique(0),
+    }
+}
+
+// ---- what is written
+
+// "replace arguments by their numbers' homes".
+pub fn rewrite_instr(st: LvnState, i: Instruction) -> Instruction
+    requires { ⌜ i .count ≤ 8 ⌝ }
+    ensures { λ r. ⌜
+        ((hs ns : List ℕ) → instr-of r ≡ rewrite-instr (state-of st hs ns) (instr-of i .args) (instr-of i)) ×
+        (r .count ≡ i .count) ⌝ }
+{
+    let op = i.op;
+    let dest = i.dest;
+    let literal = i.literal;
+    let args = i.args;
+    let blocks = i.blocks;
+    Instruction {
+        id: i.id,
+        op: op,
+        dest: dest,
+        literal: literal,
+        count: i.count,
+        args: st.replace_args(args, i.count),
+        callee: i.callee,
+        blocks: blocks,
+    }
+}
+
+// A const under the id and dest of i.
+pub fn make_const_instr(i: Instruction, l: Literal) -> Instruction
+    ensures { λ r. ⌜ (instr-of r ≡ const-as (instr-of i) (literal-of l)) × (r .count ≤ 8) ⌝ }
+{
+    let dest = i.dest;
+    Instruction {
+        id: i.id,
+        op: Op::Const,
+        dest: dest,
+        literal: l,
+        count: 0,
+        args: [0; 8],
+        callee: 0,
+        blocks: [0; 2],
+    }
+}
+
+// An operator of one argument, a number's home, under the id and dest of i.
+pub fn make_one_instr(st: LvnState, i: Instruction, o: One, a: ValNum) -> Instruction
+    ensures { λ r. ⌜ (instr-of r ≡ make-val-instr (instr-of i) (code1 o) (locs-of (st .homes) a ∷ [])) × (r .count ≤ 8) ⌝ }
+{
+    let dest = i.dest;
+    let x = st.loc(a);
+    Instruction {
+        id: i.id,
+        op: Op::One(o),
+        dest: dest,
+        literal: Literal::Int(0),
+        count: 1,
+        args: [x.0, 0, 0, 0, 0, 0, 0, 0],
+        callee: 0,
+        blocks: [0; 2],
+    }
+}
+
+// An operator of two arguments, numbers' homes, under the id and dest of i.
+pub fn make_two_instr(st: LvnState, i: Instruction, o: Two, a: ValNum, b: ValNum) -> Instruction
+    ensures { λ r. ⌜
+        (instr-of r ≡ make-val-instr (instr-of i) (code2 o) (locs-of (st .homes) a ∷ locs-of (st .homes) b ∷ [])) ×
+        (r .count ≤ 8) ⌝ }
+{
+    let dest = i.dest;
+    let x = st.loc(a);
+    let y = st.loc(b);
+    Instruction {
+        id: i.id,
+        op: Op::Two(o),
+        dest: dest,
+        literal: Literal::Int(0),
+        count: 2,
+        args: [x.0, y.0, 0, 0, 0, 0, 0, 0],
+        callee: 0,
+        blocks: [0; 2],
+    }
+}
+
+// The instruction of a value; one that is new each time stays.
+pub fn val_to_instr(st: LvnState, i: Instruction, v: Value) -> Instruction
+    requires { ⌜ i .count ≤ 8 ⌝ }
+    ensures { λ r. ⌜
+        ((hs ns : List ℕ) → instr-of r ≡ written-as (state-of st hs ns) (instr-of i) (expr-of v)) ×
+        (r .count ≤ 8) ⌝ }
+{
+    match v {
+        Value::Unique(_) => i,
+        Value::Add(a, b) => make_two_instr(st, i, Two::Add, a, b),
+        Value::Mul(a, b) => make_two_instr(st, i, Two::Mul, a, b),
+        Value::Sub(a, b) => make_two_instr(st, i, Two::Sub, a, b),
+        Value::Div(a, b) => make_two_instr(st, i, Two::Div, a, b),
+        Value::Id(a) => make_one_instr(st, i, One::Id, a),
+        Value::Eq(a, b) => make_two_instr(st, i, Two::Eq, a, b),
+        Value::Lt(a, b) => make_two_instr(st, i, Two::Lt, a, b),
+        Value::Gt(a, b) => make_two_instr(st, i, Two::Gt, a, b),
+        Value::Le(a, b) => make_two_instr(st, i, Two::Le, a, b),
+        Value::Ge(a, b) => make_two_instr(st, i, Two::Ge, a, b),
+        Value::And(a, b) => make_two_instr(st, i, Two::And, a, b),
+        Value::Or(a, b) => make_two_instr(st, i, Two::Or, a, b),
+        Value::Not(a) => make_one_instr(st, i, One::Not, a),
+        Value::Bool(b) => make_const_instr(i, Literal::Bool(b)),
+        Value::Int(z) => make_const_instr(i, Literal::Int(z)),
+        Value::IntAsFloat(z) => make_const_instr(i, Literal::Int(z)),
+        Value::PtrAdd(a, b) => make_two_instr(st, i, Two::PtrAdd, a, b),
+    }
+}
+
+// A number that is there: "const if the constant is known, else id of its home".
+pub fn make_id_instr(k: Known, st: LvnState, i: Instruction, v: ValNum) -> Instruction
+    ensures { λ r. ⌜
+        ((hs ns : List ℕ) → instr-of r ≡ make-id-instr (known-of k) (state-of st hs ns) (instr-of i) v) ×
+        (r .count ≤ 8) ⌝ }
+{
+    match k {
+        Known::Nothing => make_one_instr(st, i, One::Id, v),
+        Known::Int(w) => make_const_instr(i, Literal::Int(words::of_bits(w))),
+        Known::Bool(b) => make_const_instr(i, Literal::Bool(b)),
+    }
+}
+
+// What is written: w where the value has no number yet, else a copy of its number.
+pub fn choose(
+    number: Numbered,
+    st: LvnState,
+    heads: &[u64],
+    nums: &[u64],
+    i: Instruction,
+    w: Instruction,
+) -> Instruction
+    requires { ⌜ (w .count ≤ 8) × ((st .count ≤ length (now heads)) × (st .count ≤ length (now nums))) ⌝ }
+    ensures { λ r. ⌜
+        (instr-of r ≡
+        chosen (state-of st (now (heads .entry)) (now (nums .entry))) (instr-of i) (instr-of w) (numbered-of number)) ×
+        (r .count ≤ 8) ⌝ }
+{
+    match number {
+        Numbered::Unseen => w,
+        Numbered::Is(v) => make_id_instr(st.known(heads, nums, v), st, i, v),
+    }
+}
+
+// ---- one instruction
+
+// An instruction with a dest, whose arguments are replaced and whose value is v: the save that it owes, then dest takes v's number.
+pub fn place(
+    st: LvnState,
+    heads: &mut [u64],
+    nums: &mut [u64],
+    n: u16,
+    i: Instruction,
+    v: Value,
+) -> Emitted
+    requires { ⌜
+        (i .count ≤ 8) × ((i .dest .0 < 256) × ((st .count < 512) × ((n + st .made < 65535) ×
+        ((512 ≤ length (now heads)) × ((512 ≤ length (now nums)) × MaybeOk Any 65535 (expr-of v)))))) ⌝ }
+    ensures { λ r. ⌜
+        (emitted-of r (now (heads .exit)) (now (nums .exit)) ≡
+        place n (state-of st (now (heads .entry)) (now (nums .entry))) (instr-of i) (expr-of v)) ×
+        (r .instr .count ≤ 8) ⌝ }
+{
+    let dest = i.dest;
+    let w = val_to_instr(st, i, v);
+    let saved = st.handle_overwrite(n, dest, v);
+    let made = saved.made;
+    let settled = saved.state.number_dest(heads, nums, dest, v);
+    let s = settled.state;
+    let number = settled.number;
+    Emitted {
+        state: s,
+        made: made,
+        instr: choose(number, s, heads, nums, i, w),
+    }
+}
+
+// An instruction with no dest.
+pub fn unchanged(st: LvnState, i: Instruction) -> Emitted
+    requires { ⌜ i .count ≤ 8 ⌝ }
+    ensures { λ r. ⌜
+        ((hs ns : List ℕ) → emitted-of r hs ns ≡ unchanged (state-of st hs ns) (instr-of i)) ×
+        (r .instr .count ≤ 8) ⌝ }
+{
+    Emitted {
+        state: st,
+        made: NameIx(65535),
+        instr: i,
+    }
+}
+
+// By the operation: const, the operators and what is new each time have a dest.
+pub fn emit(
+    op: Op,
+    st: LvnState,
+    heads: &mut [u64],
+    nums: &mut [u64],
+    n: u16,
+    i: Instruction,
+    v: Value,
+) -> Emitted
+    requires { ⌜
+        (i .count ≤ 8) × ((i .dest .0 < 256) × ((st .count < 512) × ((n + st .made < 65535) ×
+        ((512 ≤ length (now heads)) × ((512 ≤ length (now nums)) × MaybeOk Any 65535 (expr-of v)))))) ⌝ }
+    ensures { λ r. ⌜
+        (emitted-of r (now (heads .exit)) (now (nums .exit)) ≡
+        by-op n (state-of st (now (heads .entry)) (now (nums .entry))) (instr-of i) op (expr-of v)) ×
+        (r .instr .count ≤ 8) ⌝ }
+{
+    match op {
+        Op::Effect(_) => unchanged(st, i),
+        Op::Nop => unchanged(st, i),
+        Op::Jmp => unchanged(st, i),
+        Op::Br => unchanged(st, i),
+        Op::Ret => unchanged(st, i),
+        _ => place(st, heads, nums, n, i, v),
+    }
+}
+
+// The type of a name.
+pub fn type_of(types: &[u8], x: NameIx) -> u8
+    ensures { λ r. ⌜ r ≡ type-in (now (types .entry)) x ⌝ }
+{
+    let i = x.0 as usize;
+    if i < types.len() {
+        return types[i];
+    }
+    0
+}
+
+// One instruction of a block. n: how many names the input has; types: their types.
+pub fn instr_lvn(
+    st: LvnState,
+    heads: &mut [u64],
+    nums: &mut [u64],
+    n: u16,
+    types: &[u8],
+    i: Instruction,
+) -> Emitted
+    requires { ⌜
+        Ready i × ((room (state-of st [] []) ≤ 511) × ((n + st .made < 65535) ×
+        ((512 ≤ length (now heads)) × (512 ≤ length (now nums))))) ⌝ }
+    ensures { λ r. ⌜
+        (emitted-of r (now (heads .exit)) (now (nums .exit)) ≡
+        instr-lvn n (type-in (now (types .entry))) (state-of st (now (heads .entry)) (now (nums .entry))) (instr-of i)) ×
+        (r .instr .count ≤ 8) ⌝ }
+{
+    let dest = i.dest;
+    let args = i.args;
+    let op = i.op;
+    let t = type_of(types, dest);
+    let s = st.gen_new_vals(heads, args, i.count);
+    let v = make_val(s, heads, nums, i, t);
+    let j = rewrite_instr(s, i);
+    emit(op, s, heads, nums, n, j, v)
+}
