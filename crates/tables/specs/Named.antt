@@ -1,0 +1,18 @@
+-- What making names asks of the bytes of the input and of the row of names they are made of.
+use Prim.Native.Nat.{ℕ, _+_, _<_, _≤_}
+use mathlib.Core.List.{List}
+use lib.ListN.{getD}
+use Rattle.record.specs.Reader.{num-at}
+use Rattle.record.specs.Decode.{behind, name-end}
+
+-- the length of the text of the name x
+abbrev pub text-length : List ℕ → ℕ → ℕ
+text-length s x = num-at s (behind (name-end s) 8 x + 1) 1
+
+-- the first entries of a row are of n names
+abbrev pub Named : List ℕ → ℕ → ℕ → Type 0
+Named row count n = (k : ℕ) → k < count → getD row k 0 < n
+
+-- the n names have texts of at most 200 bytes
+abbrev pub Short : List ℕ → ℕ → Type 0
+Short s n = (x : ℕ) → x < n → text-length s x ≤ 200

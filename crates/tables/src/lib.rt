@@ -1,0 +1,74 @@
+// What stands between the length of a record and its blocks: version, A and N, the input's names, and the made ones behind them.
+ghost use mathlib.Core.Path.{_≡_};
+ghost use mathlib.Core.List.{_++_, map};
+ghost use Prim.Native.Nat.{_+_, _-_, _*_, _<_, _≤_};
+ghost use lib.ListN.{length, take, drop};
+ghost use Rattle.record.specs.Record.{nm, plain};
+ghost use Rattle.record.specs.Write.{be, join, name-bytes};
+ghost use Rattle.record.specs.Decode.{behind, name-end, names-count, record-from};
+ghost use Rattle.numbering.specs.Made.{made-name, made-names};
+ghost use Rattle.emit.specs.Put.{Wrote};
+ghost use Rattle.tables.specs.Named.{text-length, Named, Short};
+
+// Version, A and N, behind the four bytes of L.
+pub fn put_head(out: &mut [u8], version: u8, args: u8, names: u16)
+    ensures { λ _. ⌜ Wrote (now (out .entry)) (now (out .exit)) 4 8 (be 1 version ++ (be 1 args ++ be 2 names)) ⌝ }
+{
+    emit::put_u8(out, 4, version);
+    emit::put_u8(out, 5, args);
+    emit::put_u16(out, 6, names);
+}
+
+// The input's names, the bytes from 8 to `end`; the place behind them.
+pub fn copy_names(s: &[u8], out: &mut [u8], end: usize) -> usize
+    requires { ⌜ (8 ≤ end) × (end < 4294967296) ⌝ }
+    ensures { λ r. ⌜ Wrote (now (out .entry)) (now (out .exit)) 8 r (take (end - 8) (drop 8 (now (s .entry)))) × (r ≤ end) ⌝ }
+{
+    emit::copy_bytes(s, 8, end - 8, out, 8)
+}
+
+// The place of the input's name x.
+pub fn name_place(s: &[u8], x: u16) -> usize
+    ensures { λ r. ⌜ (r ≡ behind (name-end (now (s .entry))) 8 x) × (r < 20000000) ⌝ }
+{
+    let mut p: usize = 8;
+    let mut left = x;
+    while left > 0 {
+        p = typing::name_end(s, p);
+        left -= 1;
+    }
+    p
+}
+
+// The name made with K = k of the input's name x; the place behind it.
+fn put_made_name(out: &mut [u8], at: usize, s: &[u8], x: u16, k: u64) -> usize
+    requires { ⌜ (at < 4294966000) × ((x < names-count (now s)) × ((text-length (now s) x ≤ 200) × (k < 16384))) ⌝ }
+    ensures { λ r.
+        ⌜ Wrote (now (out .entry)) (now (out .exit)) at r (name-bytes (made-name (plain (record-from (now (s .entry)))) k (nm x)))
+        × (r ≤ at + 217) ⌝ }
+{
+    let p = name_place(s, x);
+    let ty = fields::byte_or(s, p) as u8;
+    let n = fields::byte_or(s, p + 1) as usize;
+    emit::put_made(out, at, ty, s, p + 2, n, k)
+}
+
+// The names made with K = 0 to count - 1, each of the input's name that `made` has at K; the place behind them.
+pub fn put_made_names(out: &mut [u8], at: usize, s: &[u8], made: &[u16], count: usize) -> usize
+    requires { ⌜ (at < 4000000000) × ((count ≤ 16384) × ((count ≤ length (now made))
+        × (Named (now made) count (names-count (now s)) × Short (now s) (names-count (now s))))) ⌝ }
+    ensures { λ r.
+        ⌜ Wrote (now (out .entry)) (now (out .exit)) at r
+        (join (map name-bytes (made-names (plain (record-from (now (s .entry)))) 0 (map nm (take count (now (made .entry)))))))
+        × (r ≤ at + 217 * count) ⌝ }
+{
+    let mut p = at;
+    let mut i: usize = 0;
+    let mut left = count;
+    while left > 0 {
+        p = put_made_name(out, p, s, made[i], i as u64);
+        i += 1;
+        left -= 1;
+    }
+    p
+}
