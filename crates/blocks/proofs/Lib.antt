@@ -1,0 +1,6 @@
+pub mod Accepted
+pub mod Lines
+pub mod Turned
+pub mod Heads
+pub mod Blocks
+pub mod Whole

@@ -1,0 +1,240 @@
+// The rewriting of a block and of all blocks: instructions of an accepted record read again, numbered and written.
+// Writing past the end does nothing, so that over an empty output the same functions learn the size and K.
+ghost use mathlib.Core.Path.{_≡_};
+ghost use mathlib.Core.List.{List, [], _∷_, _++_};
+ghost use Prim.Native.Nat.{_+_, _^_, _<_, _≤_};
+ghost use lib.ListN.{length};
+ghost use Rattle.record.specs.Record.{Instr, Block, type-in};
+ghost use Rattle.record.specs.Write.{be};
+ghost use Rattle.record.specs.View.{instr-of};
+ghost use Rattle.record.specs.Decode.{instr-from};
+ghost use Rattle.emit.specs.Put.{put, Wrote, IdWidth};
+ghost use Rattle.state.specs.View.{state-of, saves-of};
+ghost use Rattle.blocks.specs.Block.{save-before, body-bytes, saved-by, Fit, Tables, Passes, Asks, Turned, Done};
+ghost use Rattle.blocks.specs.Blocks.{block-in, blocks-in, BlocksPass, BlocksAsk, BlockDone, BlocksDone};
+use arith::One;
+use record::Instruction;
+use record::Literal;
+use record::NameIx;
+use record::Op;
+use state::LvnState;
+
+// ---- one instruction
+
+// The save `made = id x` that is owed before an instruction whose dest is x, under its id.
+pub fn save_instr(i: Instruction, made: NameIx) -> Instruction
+    ensures { λ r. ⌜ (instr-of r ≡ save-before (instr-of i) made) × ((r .id ≡ i .id) × (r .count ≤ 8)) ⌝ }
+{
+    let x = i.dest;
+    Instruction {
+        id: i.id,
+        op: Op::One(One::Id),
+        dest: made,
+        literal: Literal::Int(0),
+        count: 1,
+        args: [x.0, 0, 0, 0, 0, 0, 0, 0],
+        callee: 0,
+        blocks: [0; 2],
+    }
+}
+
+// The save that is owed before i, where one is (made is not 65535); the place behind it.
+pub fn put_save(out: &mut [u8], at: usize, w: usize, i: Instruction, made: NameIx) -> usize
+    requires { ⌜ (at < 4294967296) × (IdWidth w × (i .id < 256 ^ w)) ⌝ }
+    ensures { λ r. ⌜
+        Wrote (now (out .entry)) (now (out .exit)) at r (body-bytes w (saves-of made (instr-of i))) × (r ≤ at + 43) ⌝ }
+{
+    if made.0 == 65535 {
+        return at;
+    }
+    instrs::put_instr(out, at, w, save_instr(i, made))
+}
+
+// That save, and i; the place behind them.
+pub fn put_lines(out: &mut [u8], at: usize, w: usize, i: Instruction, made: NameIx) -> usize
+    requires { ⌜ (at < 4294967000) × (IdWidth w × ((i .id < 256 ^ w) × (i .count ≤ 8))) ⌝ }
+    ensures { λ r. ⌜
+        Wrote (now (out .entry)) (now (out .exit)) at r (body-bytes w (saves-of made (instr-of i) ++ (instr-of i ∷ []))) ×
+        (r ≤ at + 86) ⌝ }
+{
+    let p = put_save(out, at, w, i, made);
+    instrs::put_instr(out, p, w, i)
+}
+
+// What the save of K = k saves, the dest of i, at the place k of a table, where a save is owed.
+pub fn note_save(names: &mut [u16], k: u16, i: Instruction, made: NameIx)
+    ensures { λ _. ⌜ now (names .exit) ≡ put (now (names .entry)) k (saved-by (saves-of made (instr-of i))) ⌝ }
+{
+    if made.0 != 65535 {
+        let at = k as usize;
+        if at < names.len() {
+            names[at] = i.dest.0;
+        }
+    }
+}
+
+// The state, the place in the input and the place in the output.
+pub struct Turn {
+    pub st: LvnState,
+    pub p: usize,
+    pub q: usize,
+}
+
+// One instruction of a block. n: how many names the input has; w: the bytes of an id; names: what each K saved.
+pub fn turn_once(
+    s: &[u8],
+    types: &[u8],
+    heads: &mut [u64],
+    nums: &mut [u64],
+    names: &mut [u16],
+    out: &mut [u8],
+    w: usize,
+    n: u16,
+    t: Turn,
+) -> Turn
+    requires { ⌜
+        Fit n (state-of (t .st) [] []) (t .p) (t .q) 1 ×
+        (IdWidth w × (Tables (now heads) (now nums) × Passes n (instr-from w (now s) (t .p)))) ⌝ }
+    ensures { λ r. ⌜
+        Turned w n (now (s .entry)) (type-in (now (types .entry))) t r
+        (state-of (t .st) (now (heads .entry)) (now (nums .entry))) (state-of (r .st) (now (heads .exit)) (now (nums .exit)))
+        (now (names .entry)) (now (names .exit)) (now (out .entry)) (now (out .exit)) ⌝ }
+{
+    let st = t.st;
+    let k = st.made;
+    let g = instrs::instr_at(s, t.p, w);
+    let i = g.instr;
+    let e = step::instr_lvn(st, heads, nums, n, types, i);
+    let made = e.made;
+    let j = e.instr;
+    note_save(names, k, j, made);
+    let q = put_lines(out, t.q, w, j, made);
+    let after = e.state;
+    Turn {
+        st: after,
+        p: g.next,
+        q: q,
+    }
+}
+
+// The instructions of a block, so many, from where t0 stands.
+pub fn body_lvn(
+    s: &[u8],
+    types: &[u8],
+    heads: &mut [u64],
+    nums: &mut [u64],
+    names: &mut [u16],
+    out: &mut [u8],
+    w: usize,
+    n: u16,
+    t0: Turn,
+    count: usize,
+) -> Turn
+    requires { ⌜ Asks w n (now s) t0 count (now heads) (now nums) ⌝ }
+    ensures { λ r. ⌜
+        Done w n (now (s .entry)) (type-in (now (types .entry))) t0 r (state-of (t0 .st) (now (heads .entry)) (now (nums .entry))) count
+        (now (names .entry)) (now (names .exit)) (now (out .entry)) (now (out .exit)) ⌝ }
+{
+    let mut t = t0;
+    let mut left = count;
+    while left > 0 {
+        t = turn_once(s, types, heads, nums, names, out, w, n, t);
+        left -= 1;
+    }
+    t
+}
+
+// ---- blocks
+
+// The head of a block: how many instructions it has, and how many of them are saves.
+pub fn put_head(out: &mut [u8], at: usize, n: u16, saves: u16)
+    requires { ⌜ at < 4294967296 ⌝ }
+    ensures { λ _. ⌜ now (out .exit) ≡ put (now (out .entry)) at (be 2 n ++ be 2 saves) ⌝ }
+{
+    emit::put_u16(out, at, n);
+    emit::put_u16(out, at + 2, saves);
+}
+
+// The place in the input, the place in the output, and K.
+pub struct Places {
+    pub p: usize,
+    pub q: usize,
+    pub k: u16,
+}
+
+// One block: its instructions, then, before them, its head. args: how many arguments the function has.
+pub fn block_lvn(
+    s: &[u8],
+    types: &[u8],
+    heads: &mut [u64],
+    nums: &mut [u64],
+    names: &mut [u16],
+    out: &mut [u8],
+    w: usize,
+    n: u16,
+    args: u16,
+    a: Places,
+) -> Places
+    requires { ⌜ BlocksAsk w n args a 1 (now heads) (now nums) × BlocksPass n (block-in w (now s) (a .p) ∷ []) ⌝ }
+    ensures { λ r. ⌜
+        BlockDone w n args (now (s .entry)) (type-in (now (types .entry))) a r
+        (now (names .entry)) (now (names .exit)) (now (out .entry)) (now (out .exit)) ⌝ }
+{
+    let count = fields::be16(s, a.p) as usize;
+    let st = state::start(heads, args, a.k);
+    let t = body_lvn(
+        s,
+        types,
+        heads,
+        nums,
+        names,
+        out,
+        w,
+        n,
+        Turn {
+            st: st,
+            p: a.p + 4,
+            q: a.q + 4,
+        },
+        count,
+    );
+    let end = t.st;
+    let saves = end.made - a.k;
+    put_head(out, a.q, count as u16 + saves, saves);
+    Places {
+        p: t.p,
+        q: t.q,
+        k: end.made,
+    }
+}
+
+// So many blocks, from where a0 stands; types: the types of the names.
+pub fn blocks_lvn(
+    s: &[u8],
+    types: &[u8],
+    heads: &mut [u64],
+    nums: &mut [u64],
+    names: &mut [u16],
+    out: &mut [u8],
+    w: usize,
+    args: u16,
+    a0: Places,
+    count: usize,
+) -> Places
+    requires { ⌜
+        BlocksAsk w (length (now types)) args a0 count (now heads) (now nums) ×
+        BlocksPass (length (now types)) (blocks-in w (now s) (a0 .p) count) ⌝ }
+    ensures { λ r. ⌜
+        ((bs : List (Block Instr)) →
+        BlocksDone w (record { args = args; types = now (types .entry); blocks = bs }) (now (s .entry)) a0 r count
+        (now (names .entry)) (now (names .exit)) (now (out .entry)) (now (out .exit))) ⌝ }
+{
+    let n = types.len() as u16;
+    let mut a = a0;
+    let mut left = count;
+    while left > 0 {
+        a = block_lvn(s, types, heads, nums, names, out, w, n, args, a);
+        left -= 1;
+    }
+    a
+}
