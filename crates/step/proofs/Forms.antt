@@ -1,30 +1,27 @@
 -- The form of an instruction by its operation, and the arguments that it reads.
-use Prim.Native.Nat.{ℕ, zero, suc, _<_, _≤_}
+use Prim.Native.Nat.{ℕ, zero, suc, _<_}
 use mathlib.Core.Path.{_≡_, refl, sym, ap, _∙_}
 use mathlib.Core.List.{List, [], _∷_}
-use mathlib.Core.Bool.{cond}
-use mathlib.Core.Option.{Option, none, some}
+use mathlib.Core.Option.{none}
 use native.Mathlib.Omega.{arith}
-use lib.Dec.{eqb, leb}
-use lib.ListN.{length, getD, take}
+use lib.ListN.{length, getD}
 use borrow.Author.Tests.{ne-eqb, le-leb, lt-leb}
 use Rattle.arith.specs.declared.One.{One}
 use Rattle.arith.specs.declared.One.the-variants.{Not, Id}
 use Rattle.arith.specs.declared.Two.{Two}
 use Rattle.arith.specs.declared.Two.the-variants.{Add, Sub, Mul, Div, Eq, Lt, Gt, Le, Ge, And, Or, PtrAdd}
-use Rattle.arith.specs.Operation.{Expr, constant, one, two}
 use Rattle.arith.specs.Code.{code1, code2, with-code, one-of, two-of}
 use Rattle.record.specs.declared.NameIx.{NameIx}
 use Rattle.record.specs.declared.Op.{Op}
 use Rattle.record.specs.declared.Op.the-variants as ops
 use Rattle.record.specs.declared.Instruction.{Instruction}
 use Rattle.record.specs.Record.{nm, Instr, arg}
-use Rattle.record.specs.Form.{Form, pure, new, effect, return, nop, jump, branch, form}
+use Rattle.record.specs.Form.{new, effect, form}
 use Rattle.record.specs.View.{code-of, instr-of}
 use Rattle.numbering.specs.Number.{reads}
 use Rattle.state.specs.View.{names-in}
 use Rattle.state.specs.Room.{Low}
-use Rattle.step.specs.View.{Formed, Fit, Ready, form-as}
+use Rattle.step.specs.View.{Formed, Ready, form-as}
 
 -- ---- codes that are no operator's
 one-none : (c : ℕ) → 14 < c → one-of c ≡ none

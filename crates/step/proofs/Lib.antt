@@ -1,3 +1,4 @@
 pub mod Forms
 pub mod Values
 pub mod Placed
+pub mod Fit

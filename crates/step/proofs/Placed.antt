@@ -3,14 +3,16 @@ use Prim.Native.Nat.{ℕ, suc, _<_, _≤_}
 use mathlib.Core.Path.{_≡_, refl, sym, ap, _∙_, subst}
 use mathlib.Core.Logic.{_≢_}
 use mathlib.Core.List.{List, [], _∷_}
-use mathlib.Core.Bool.{cond}
+use mathlib.Core.Bool.{Bool, false, cond}
 use mathlib.Core.Option.{Option, none, some}
 use native.Mathlib.Omega.{arith}
 use lib.Dec.{eqb}
 use types.Run.{OneOf, miss}
 use denote.Enum.Declared.{tagOf}
+use Rattle.arith.specs.declared.One.{One}
 use Rattle.arith.specs.declared.One.the-variants.{Id}
-use Rattle.arith.specs.Code.{code1}
+use Rattle.arith.specs.declared.Two.{Two}
+use Rattle.arith.specs.Code.{code1, code2}
 use Rattle.arith.specs.Value.{Val}
 use Rattle.arith.specs.Operation.{Expr, constant, one, two}
 use Rattle.record.specs.declared.NameIx.{NameIx}
@@ -23,7 +25,8 @@ use Rattle.record.specs.View.{instr-of}
 use Rattle.record.proofs.Op as Ops
 use Rattle.numbering.specs.declared.ValNum.{ValNum}
 use Rattle.numbering.specs.State.{State, new-number, update-env, gen-new-vals, known}
-use Rattle.numbering.specs.Number.{reads, make-id-instr, val-to-instr, rewrite-instr, Saved, handle-overwrite, get-val-num, Emitted, unchanged, number-dest, place, by-form, instr-lvn}
+use Rattle.numbering.specs.Number.{reads, make-val-instr, make-id-instr, val-to-instr, rewrite-instr, Saved, handle-overwrite}
+use Rattle.numbering.specs.Number.{get-val-num, Emitted, unchanged, number-dest, place, by-form, instr-lvn}
 use Rattle.numbering.specs.declared.Value.{Value}
 use Rattle.numbering.specs.View.{expr-of}
 use Rattle.numbering.proofs.Saves.{gen-new-vals-temps}
@@ -31,15 +34,29 @@ use Rattle.numbering.proofs.Homes.{overwritten, overwritten-next}
 use Rattle.numbering.proofs.Simplified.{MaybeOk}
 use Rattle.values.specs.Table.{val-num-of}
 use Rattle.state.specs.declared.LvnState.{LvnState}
-use Rattle.state.specs.View.{state-of, saves-of, settled-at, settled}
+use Rattle.state.specs.View.{locs-of, state-of, saves-of, settled-at, settled}
 use Rattle.state.specs.Room.{Low, room}
 use Rattle.state.proofs.Room.{next-room, room-of, gen-room}
-use Rattle.step.specs.View.{Ready, form-as, value-by, Any, written-as, chosen, by-op}
+use Rattle.step.specs.View.{Ready, form-as, value-by, Any, has-dest, written-as, chosen, by-op}
 use Rattle.step.proofs.Forms.{instr-form}
 
 -- ---- the instruction of a value
-abbrev pub written-of : LvnState → Instruction → List ℕ → List ℕ → Value → Instr
-written-of s i hs ns v = written-as (state-of s hs ns) (instr-of i) (expr-of v)
+abbrev pub written-of : State → Instruction → Value → Instr
+written-of s i v = written-as s (instr-of i) (expr-of v)
+
+pub one-written :
+    (s : State) (homes : List ℕ) (i : Instr) (o : One) (a : ValNum) →
+    s .locs ≡ locs-of homes →
+    make-val-instr i (code1 o) (locs-of homes a ∷ []) ≡ val-to-instr s i (one o a)
+unfolding val-to-instr
+one-written s homes i o a e = ap (λ (f : ValNum → NameIx). make-val-instr i (code1 o) (f a ∷ [])) (sym e)
+
+pub two-written :
+    (s : State) (homes : List ℕ) (i : Instr) (o : Two) (a b : ValNum) →
+    s .locs ≡ locs-of homes →
+    make-val-instr i (code2 o) (locs-of homes a ∷ locs-of homes b ∷ []) ≡ val-to-instr s i (two o a b)
+unfolding val-to-instr
+two-written s homes i o a b e = ap (λ (f : ValNum → NameIx). make-val-instr i (code2 o) (f a ∷ f b ∷ [])) (sym e)
 
 -- ---- an instruction with a dest
 copy-alike : (k : Option Val) (s t : State) (i : Instr) (v : ValNum) → s .locs v ≡ t .locs v → make-id-instr k s i v ≡ make-id-instr k t i v
@@ -70,7 +87,9 @@ number-settled q i w e none = refl
 number-settled q i w e (some v) =
     λ z. record { state = update-env (q .state) (i .dest) v; saves = q .saves; instr = copy-after (q .state) (i .dest) i w v z }
 
-place-settled : (N : ℕ) (s : State) (i : Instr) (e : Option (Expr ValNum)) → place N s i e ≡ placed-as (handle-overwrite N s i e) i (written-as s i e) e
+place-settled :
+    (N : ℕ) (s : State) (i : Instr) (e : Option (Expr ValNum)) →
+    place N s i e ≡ placed-as (handle-overwrite N s i e) i (written-as s i e) e
 unfolding place settled
 place-settled N s i none = refl
 place-settled N s i (some e) =
@@ -156,21 +175,26 @@ pub seen-temps : (s : State) (xs : List NameIx) (t : State) → t ≡ gen-new-va
 seen-temps s xs t e = ap (λ (u : State). u .temps) e ∙ gen-new-vals-temps s xs
 
 -- ---- by the operation
-pub with-dest :
-    (N : ℕ) (s : State) (i : Instr) (o : Op) (e : Option (Expr ValNum)) →
-    OneOf (0 ∷ 1 ∷ 2 ∷ 3 ∷ []) (tagOf Ops.the-type o) →
-    place N s i e ≡ by-op N s i o e
-with-dest N s i ops.Const e h = refl
-with-dest N s i (ops.One o) e h = refl
-with-dest N s i (ops.Two o) e h = refl
-with-dest N s i (ops.New c) e h = refl
-with-dest N s i (ops.Effect c) e h = absurd (miss (0 ∷ 1 ∷ 2 ∷ 3 ∷ []) 4 tt h)
-with-dest N s i ops.Nop e h = absurd (miss (0 ∷ 1 ∷ 2 ∷ 3 ∷ []) 5 tt h)
-with-dest N s i ops.Jmp e h = absurd (miss (0 ∷ 1 ∷ 2 ∷ 3 ∷ []) 6 tt h)
-with-dest N s i ops.Br e h = absurd (miss (0 ∷ 1 ∷ 2 ∷ 3 ∷ []) 7 tt h)
-with-dest N s i ops.Ret e h = absurd (miss (0 ∷ 1 ∷ 2 ∷ 3 ∷ []) 8 tt h)
+pub no-dest : (o : Op) → OneOf (4 ∷ 5 ∷ 6 ∷ 7 ∷ 8 ∷ []) (tagOf Ops.the-type o) → false ≡ has-dest o
+no-dest ops.Const h = absurd (miss (4 ∷ 5 ∷ 6 ∷ 7 ∷ 8 ∷ []) 0 tt h)
+no-dest (ops.One o) h = absurd (miss (4 ∷ 5 ∷ 6 ∷ 7 ∷ 8 ∷ []) 1 tt h)
+no-dest (ops.Two o) h = absurd (miss (4 ∷ 5 ∷ 6 ∷ 7 ∷ 8 ∷ []) 2 tt h)
+no-dest (ops.New c) h = absurd (miss (4 ∷ 5 ∷ 6 ∷ 7 ∷ 8 ∷ []) 3 tt h)
+no-dest (ops.Effect c) h = refl
+no-dest ops.Nop h = refl
+no-dest ops.Jmp h = refl
+no-dest ops.Br h = refl
+no-dest ops.Ret h = refl
 
-by-op-form : (N : ℕ) (s : State) (i j : Instr) (t : NameIx → ℕ) (o : Op) → by-op N s i o (value-by s (form-as t o j)) ≡ by-form N s i (form-as t o j)
+pub by-dest :
+    (N : ℕ) (s : State) (i : Instr) (o : Op) (e : Option (Expr ValNum)) (b : Bool) →
+    has-dest o ≡ b →
+    cond b (place N s i e) (unchanged s i) ≡ by-op N s i o e
+by-dest N s i o e b p = ap (λ (d : Bool). cond d (place N s i e) (unchanged s i)) (sym p)
+
+by-op-form :
+    (N : ℕ) (s : State) (i j : Instr) (t : NameIx → ℕ) (o : Op) →
+    by-op N s i o (value-by s (form-as t o j)) ≡ by-form N s i (form-as t o j)
 unfolding by-form
 by-op-form N s i j t ops.Const = refl
 by-op-form N s i j t (ops.One o) = refl
@@ -183,7 +207,9 @@ by-op-form N s i j t ops.Br = refl
 by-op-form N s i j t ops.Ret = refl
 
 -- ---- one instruction
-module _ (N : ℕ) (t : NameIx → ℕ) (s : State) (i : Instruction) (ready : Ready i) (seen : State) (j : Instr) (e : Option (Expr ValNum)) where
+module _
+    (N : ℕ) (t : NameIx → ℕ) (s : State) (i : Instruction) (ready : Ready i)
+    (seen : State) (j : Instr) (e : Option (Expr ValNum)) where
   pub instr-by-op :
       seen ≡ gen-new-vals s (instr-of i .args) →
       j ≡ rewrite-instr seen (instr-of i .args) (instr-of i) →

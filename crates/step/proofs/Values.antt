@@ -1,5 +1,5 @@
 -- The value of an instruction: one law for each arm of the code.
-use Prim.Native.Nat.{ℕ, _<_, _≤_}
+use Prim.Native.Nat.{ℕ, _<_}
 use mathlib.Core.Path.{_≡_, refl, sym, ap, _∙_, subst}
 use mathlib.Core.Logic.{_≢_}
 use mathlib.Core.List.{List, [], _∷_}
@@ -13,7 +13,7 @@ use denote.Enum.Declared.{tagOf}
 use borrow.Author.Tests.{eq-eqb, ne-eqb, eqb-false}
 use Rattle.arith.specs.declared.One.{One}
 use Rattle.arith.specs.declared.Two.{Two}
-use Rattle.arith.specs.Value.{Val, int, float, literal, char, bool, pointer}
+use Rattle.arith.specs.Value.{Val, int, literal, bool}
 use Rattle.arith.specs.Operation.{Expr, constant, one, two}
 use Rattle.record.specs.declared.NameIx.{NameIx}
 use Rattle.record.specs.declared.Literal.{Literal}
@@ -28,14 +28,14 @@ use Rattle.record.specs.View.{instr-of}
 use Rattle.record.proofs.Literal as Literals
 use Rattle.record.proofs.Op as Ops
 use Rattle.numbering.specs.declared.ValNum.{ValNum}
-use Rattle.numbering.specs.State.{vn, State, number-of, known}
+use Rattle.numbering.specs.State.{vn, State, number-of, home-of, known-expr, known}
 use Rattle.numbering.specs.Simplify.{simplify}
 use Rattle.numbering.specs.Number.{numbered, make-val}
-use Rattle.numbering.proofs.Simplified.{Closed, OptionOk, ExprOk, MaybeOk, simplify-ok}
+use Rattle.numbering.proofs.Simplified.{Closed, OptionOk, MaybeOk, simplify-ok}
 use Rattle.simplify.specs.View.{simplify-over, simplify-over-value}
-use Rattle.state.specs.declared.LvnState.{LvnState}
-use Rattle.state.specs.View.{slot, env-of, state-of}
-use Rattle.step.specs.View.{Ready, form-as, value-by, Any}
+use Rattle.values.specs.Table.{vals-of}
+use Rattle.state.specs.View.{env-of, locs-of}
+use Rattle.step.specs.View.{Ready, Reads, form-as, value-by, Any}
 use Rattle.step.proofs.Forms.{instr-form, one-arg, two-args}
 
 -- ---- const
@@ -85,14 +85,32 @@ slot-there v true e = λ p. omega arith
 slot-there v false e = eqb-false v 65535 e
 
 -- 65535 stands for no number
-pub number-there : (s : LvnState) (hs ns : List ℕ) (x : NameIx) → number-of (state-of s hs ns) x .0 ≢ 65535
-unfolding number-of env-of
-number-there s hs ns x = let v = getD (s .env) (x .0) 65535 in slot-there v (eqb v 65535) refl
+pub number-small : (env : List ℕ) (x : NameIx) (a : ValNum) → a ≡ Option·getD (env-of env x) (vn 0) → a .0 < 65536 → a .0 < 65535
+unfolding env-of
+number-small env x a e h =
+    let v = getD env (x .0) 65535 in
+    let n : a .0 ≡ 65535 → ⊥ = λ p. slot-there v (eqb v 65535) refl (sym (ap (λ (v : ValNum). v .0) e) ∙ p) in
+    omega arith
 
-pub number-small :
-    (s : LvnState) (hs ns : List ℕ) (x : NameIx) (a : ValNum) → a ≡ number-of (state-of s hs ns) x → a .0 < 65536 → a .0 < 65535
-number-small s hs ns x a e h =
-    let n : a .0 ≡ 65535 → ⊥ = λ p. number-there s hs ns x (sym (ap (λ (v : ValNum). v .0) e) ∙ p) in omega arith
+-- ---- what the code reads, in a state with these numbers and values
+module _ (s : State) (env hs ns : List ℕ) (count : ℕ) (h : Reads s env hs ns count) where
+  pub number-read : (x : NameIx) (a : ValNum) → a ≡ Option·getD (env-of env x) (vn 0) → a ≡ number-of s x
+  unfolding number-of
+  number-read x a e = e ∙ ap (λ (f : NameIx → Option ValNum). Option·getD (f x) (vn 0)) (sym (h .0))
+
+  pub known-read : (k : Option Val) (a : ValNum) → k ≡ known-expr (vals-of hs ns count a) → k ≡ known s a
+  unfolding known
+  known-read k a e = e ∙ ap (λ (f : ValNum → Option (Expr ValNum)). known-expr (f a)) (sym (h .1))
+
+pub home-read :
+    (s : State) (env homes : List ℕ) → s .env ≡ env-of env → s .locs ≡ locs-of homes →
+    (x : NameIx) → locs-of homes (Option·getD (env-of env x) (vn 0)) ≡ home-of s x
+unfolding home-of number-of
+home-read s env homes d e x = λ i. sym e i (Option·getD (sym d i x) (vn 0))
+
+-- a state with these numbers and values
+abbrev pub reading : List ℕ → List ℕ → List ℕ → ℕ → State
+reading env hs ns count = record { env = env-of env; locs = λ v. nm 0; vals = vals-of hs ns count; next = 0; temps = 0 }
 
 -- ---- operators
 module _ (s : State) (p q : Option Val) {v r : Option (Expr ValNum)} (given : r ≡ simplify-over p q v) where

@@ -2,7 +2,8 @@
 use Prim.Native.Nat.{ℕ, _<_, _≤_}
 use mathlib.Core.Path.{_≡_}
 use mathlib.Core.Logic.{_≢_}
-use mathlib.Core.List.{List, [], _∷_}
+use mathlib.Core.Bool.{Bool, true, false, cond}
+use mathlib.Core.List.{List, []}
 use mathlib.Core.Option.{Option, none, some}
 use lib.ListN.{getD}
 use Rattle.arith.specs.Value.{Val}
@@ -17,7 +18,8 @@ use Rattle.record.specs.View.{instr-of}
 use Rattle.numbering.specs.declared.ValNum.{ValNum}
 use Rattle.numbering.specs.State.{State, known}
 use Rattle.numbering.specs.Number.{reads, make-val, make-id-instr, val-to-instr, Emitted as EmittedAs, unchanged, place}
-use Rattle.state.specs.View.{state-of, saves-of}
+use Rattle.values.specs.Table.{vals-of}
+use Rattle.state.specs.View.{env-of, state-of, saves-of}
 use Rattle.state.specs.Room.{Low}
 use Rattle.step.specs.declared.Emitted.{Emitted}
 
@@ -68,6 +70,10 @@ value-by s nop = none
 value-by s (jump b) = none
 value-by s (branch a b c) = none
 
+-- whether a state has the numbers of these names and the values of this table
+abbrev pub Reads : State → List ℕ → List ℕ → List ℕ → ℕ → Type 0
+Reads s env hs ns count = (s .env ≡ env-of env) × (s .vals ≡ vals-of hs ns count)
+
 -- no constant is refused
 abbrev pub Any : Val → Type 0
 Any v = Unit {0}
@@ -87,17 +93,20 @@ abbrev pub chosen : State → Instr → Instr → Option ValNum → Instr
 chosen s i w none = w
 chosen s i w (some v) = make-id-instr (known s v) s i v
 
+abbrev pub has-dest : Op → Bool
+has-dest Const = true
+has-dest (One o) = true
+has-dest (Two o) = true
+has-dest (New c) = true
+has-dest (Effect c) = false
+has-dest Nop = false
+has-dest Jmp = false
+has-dest Br = false
+has-dest Ret = false
+
 -- an instruction by its operation, whose arguments are replaced and whose value expression is e
 abbrev pub by-op : ℕ → State → Instr → Op → Option (Expr ValNum) → EmittedAs
-by-op N s i Const e = place N s i e
-by-op N s i (One o) e = place N s i e
-by-op N s i (Two o) e = place N s i e
-by-op N s i (New c) e = place N s i e
-by-op N s i (Effect c) e = unchanged s i
-by-op N s i Nop e = unchanged s i
-by-op N s i Jmp e = unchanged s i
-by-op N s i Br e = unchanged s i
-by-op N s i Ret e = unchanged s i
+by-op N s i o e = cond (has-dest o) (place N s i e) (unchanged s i)
 
 -- hs, ns: the heads and constants of the table
 abbrev pub emitted-of : Emitted → List ℕ → List ℕ → EmittedAs

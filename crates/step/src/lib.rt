@@ -1,6 +1,7 @@
 // One instruction: its arguments numbered and replaced by their homes, its value formed, simplified and looked up, the save that it owes.
 ghost use mathlib.Core.Path.{_≡_};
-ghost use mathlib.Core.List.{List, [], _∷_};
+ghost use mathlib.Core.List.{List, [], _∷_, map};
+ghost use mathlib.Core.Option.{none};
 ghost use Prim.Native.Nat.{ℕ, _+_, _<_, _≤_};
 ghost use lib.ListN.{length};
 ghost use Rattle.arith.specs.Code.{code1, code2};
@@ -10,15 +11,15 @@ ghost use Rattle.record.specs.Record.{type-in};
 ghost use Rattle.record.specs.Form.{value-of, form};
 ghost use Rattle.record.specs.Answer.{literal-of};
 ghost use Rattle.record.specs.View.{instr-of};
-ghost use Rattle.numbering.specs.State.{State};
+ghost use Rattle.numbering.specs.State.{State, home-of};
 ghost use Rattle.numbering.specs.Number.{make-val, rewrite-instr, make-val-instr, make-id-instr, place, unchanged, instr-lvn};
 ghost use Rattle.numbering.specs.View.{expr-of};
 ghost use Rattle.numbering.proofs.Simplified.{MaybeOk};
 ghost use Rattle.simplify.specs.View.{known-of};
-ghost use Rattle.values.specs.Table.{numbered-of};
-ghost use Rattle.state.specs.View.{locs-of, state-of};
+ghost use Rattle.values.specs.Table.{numbered-of, vals-of};
+ghost use Rattle.state.specs.View.{env-of, locs-of, state-of, names-in};
 ghost use Rattle.state.specs.Room.{room};
-ghost use Rattle.step.specs.View.{Ready, value-by, Any, const-as, written-as, chosen, by-op, emitted-of};
+ghost use Rattle.step.specs.View.{Ready, Reads, has-dest, value-by, Any, const-as, written-as, chosen, by-op, emitted-of};
 use arith::One;
 use arith::Two;
 use numbering::ValNum;
@@ -43,6 +44,13 @@ pub struct Emitted {
 
 // ---- the value of an instruction
 
+// Of what is new each time.
+pub fn unknown() -> Value
+    ensures { λ r. ⌜ expr-of r ≡ none ⌝ }
+{
+    Value::Unique(0)
+}
+
 // Of a const in a name of type t: an int literal of a float is the value "that literal"; floats and chars are new each time.
 pub fn const_value(l: Literal, t: u8) -> Value
     ensures { λ r. ⌜ ((s : State) → expr-of r ≡ make-val s (constant (value-of t (literal-of l .kind) (literal-of l .bits)))) ⌝ }
@@ -60,40 +68,57 @@ pub fn const_value(l: Literal, t: u8) -> Value
     }
 }
 
-// Of an operator of one argument.
-pub fn value_one(st: LvnState, heads: &[u64], nums: &[u64], o: One, x: NameIx) -> Value
-    requires { ⌜ (st .count ≤ length (now heads)) × (st .count ≤ length (now nums)) ⌝ }
+// Of an operator of one argument, over the numbers of the names and the table of values.
+pub fn value_one(env: &[u16], heads: &[u64], nums: &[u64], count: u16, o: One, x: NameIx) -> Value
+    requires { ⌜ (count ≤ length (now heads)) × (count ≤ length (now nums)) ⌝ }
     ensures { λ r. ⌜
-        (expr-of r ≡ make-val (state-of st (now (heads .entry)) (now (nums .entry))) (one o x)) ×
+        ((s : State) → Reads s (now (env .entry)) (now (heads .entry)) (now (nums .entry)) count →
+        expr-of r ≡ make-val s (one o x)) ×
         MaybeOk Any 65535 (expr-of r) ⌝ }
 {
-    let a = st.number(x);
-    let ka = st.known(heads, nums, a);
+    let a = state::number_in(env, x);
+    let ka = values::known_at(heads, nums, count, a);
     let v = simplify::form_one(o, a);
     simplify::simplify(v, ka, Known::Nothing)
 }
 
 // Of an operator of two arguments.
-pub fn value_two(st: LvnState, heads: &[u64], nums: &[u64], o: Two, x: NameIx, y: NameIx) -> Value
-    requires { ⌜ (st .count ≤ length (now heads)) × (st .count ≤ length (now nums)) ⌝ }
+pub fn value_two(
+    env: &[u16],
+    heads: &[u64],
+    nums: &[u64],
+    count: u16,
+    o: Two,
+    x: NameIx,
+    y: NameIx,
+) -> Value
+    requires { ⌜ (count ≤ length (now heads)) × (count ≤ length (now nums)) ⌝ }
     ensures { λ r. ⌜
-        (expr-of r ≡ make-val (state-of st (now (heads .entry)) (now (nums .entry))) (two o x y)) ×
+        ((s : State) → Reads s (now (env .entry)) (now (heads .entry)) (now (nums .entry)) count →
+        expr-of r ≡ make-val s (two o x y)) ×
         MaybeOk Any 65535 (expr-of r) ⌝ }
 {
-    let a = st.number(x);
-    let b = st.number(y);
-    let ka = st.known(heads, nums, a);
-    let kb = st.known(heads, nums, b);
+    let a = state::number_in(env, x);
+    let b = state::number_in(env, y);
+    let ka = values::known_at(heads, nums, count, a);
+    let kb = values::known_at(heads, nums, count, b);
     let v = simplify::form_two(o, a, b);
     simplify::simplify(v, ka, kb)
 }
 
-// Of an instruction whose dest has the type t, simplified; one that has none, or a new one each time, is Unique.
-pub fn make_val(st: LvnState, heads: &[u64], nums: &[u64], i: Instruction, t: u8) -> Value
-    requires { ⌜ Ready i × ((st .count ≤ length (now heads)) × (st .count ≤ length (now nums))) ⌝ }
+// Of an instruction whose dest has the type t, simplified; one that has no dest, or a new value each time, has Unique.
+pub fn make_val(
+    env: &[u16],
+    heads: &[u64],
+    nums: &[u64],
+    count: u16,
+    i: Instruction,
+    t: u8,
+) -> Value
+    requires { ⌜ Ready i × ((count ≤ length (now heads)) × (count ≤ length (now nums))) ⌝ }
     ensures { λ r. ⌜
-        ((types : NameIx → ℕ) → types (i .dest) ≡ t →
-        expr-of r ≡ value-by (state-of st (now (heads .entry)) (now (nums .entry))) (form types (instr-of i))) ×
+        ((s : State) (types : NameIx → ℕ) → Reads s (now (env .entry)) (now (heads .entry)) (now (nums .entry)) count →
+        types (i .dest) ≡ t → expr-of r ≡ value-by s (form types (instr-of i))) ×
         MaybeOk Any 65535 (expr-of r) ⌝ }
 {
     let op = i.op;
@@ -102,19 +127,49 @@ pub fn make_val(st: LvnState, heads: &[u64], nums: &[u64], i: Instruction, t: u8
             let l = i.literal;
             const_value(l, t)
         }
-        Op::One(o) => value_one(st, heads, nums, o, NameIx(i.args[0])),
-        Op::Two(o) => value_two(st, heads, nums, o, NameIx(i.args[0]), NameIx(i.args[1])),
-        _ => Value::Unique(0),
+        Op::One(o) => value_one(env, heads, nums, count, o, NameIx(i.args[0])),
+        Op::Two(o) => {
+            value_two(
+                env,
+                heads,
+                nums,
+                count,
+                o,
+                NameIx(i.args[0]),
+                NameIx(i.args[1]),
+            )
+        }
+        _ => unknown(),
     }
 }
 
 // ---- what is written
 
+// The first n of these names replaced by the homes of their numbers.
+pub fn replace_args<'a>(env: &'a [u16], homes: &'a [u16], args: [u16; 8], n: u8) -> [u16; 8]
+    requires { ⌜ n ≤ 8 ⌝ }
+    ensures { λ r. ⌜
+        ((s : State) → s .env ≡ env-of (now (env .entry)) → s .locs ≡ locs-of (now (homes .entry)) →
+        names-in n r ≡ map (home-of s) (names-in n args)) ⌝ }
+{
+    let m = n as usize;
+    let mut out = args;
+    let mut at: usize = 0;
+    while at < m {
+        let v = state::number_in(env, NameIx(args[at]));
+        let x = state::home_in(homes, v);
+        out[at] = x.0;
+        at += 1;
+    }
+    out
+}
+
 // "replace arguments by their numbers' homes".
-pub fn rewrite_instr(st: LvnState, i: Instruction) -> Instruction
+pub fn rewrite_instr<'a>(env: &'a [u16], homes: &'a [u16], i: Instruction) -> Instruction
     requires { ⌜ i .count ≤ 8 ⌝ }
     ensures { λ r. ⌜
-        ((hs ns : List ℕ) → instr-of r ≡ rewrite-instr (state-of st hs ns) (instr-of i .args) (instr-of i)) ×
+        ((s : State) → s .env ≡ env-of (now (env .entry)) → s .locs ≡ locs-of (now (homes .entry)) →
+        instr-of r ≡ rewrite-instr s (instr-of i .args) (instr-of i)) ×
         (r .count ≡ i .count) ⌝ }
 {
     let op = i.op;
@@ -128,7 +183,7 @@ pub fn rewrite_instr(st: LvnState, i: Instruction) -> Instruction
         dest: dest,
         literal: literal,
         count: i.count,
-        args: st.replace_args(args, i.count),
+        args: replace_args(env, homes, args, i.count),
         callee: i.callee,
         blocks: blocks,
     }
@@ -152,11 +207,11 @@ pub fn make_const_instr(i: Instruction, l: Literal) -> Instruction
 }
 
 // An operator of one argument, a number's home, under the id and dest of i.
-pub fn make_one_instr(st: LvnState, i: Instruction, o: One, a: ValNum) -> Instruction
-    ensures { λ r. ⌜ (instr-of r ≡ make-val-instr (instr-of i) (code1 o) (locs-of (st .homes) a ∷ [])) × (r .count ≤ 8) ⌝ }
+pub fn make_one_instr(homes: &[u16], i: Instruction, o: One, a: ValNum) -> Instruction
+    ensures { λ r. ⌜ (instr-of r ≡ make-val-instr (instr-of i) (code1 o) (locs-of (now (homes .entry)) a ∷ [])) × (r .count ≤ 8) ⌝ }
 {
     let dest = i.dest;
-    let x = st.loc(a);
+    let x = state::home_in(homes, a);
     Instruction {
         id: i.id,
         op: Op::One(o),
@@ -170,14 +225,15 @@ pub fn make_one_instr(st: LvnState, i: Instruction, o: One, a: ValNum) -> Instru
 }
 
 // An operator of two arguments, numbers' homes, under the id and dest of i.
-pub fn make_two_instr(st: LvnState, i: Instruction, o: Two, a: ValNum, b: ValNum) -> Instruction
+pub fn make_two_instr(homes: &[u16], i: Instruction, o: Two, a: ValNum, b: ValNum) -> Instruction
     ensures { λ r. ⌜
-        (instr-of r ≡ make-val-instr (instr-of i) (code2 o) (locs-of (st .homes) a ∷ locs-of (st .homes) b ∷ [])) ×
+        (instr-of r ≡
+        make-val-instr (instr-of i) (code2 o) (locs-of (now (homes .entry)) a ∷ locs-of (now (homes .entry)) b ∷ [])) ×
         (r .count ≤ 8) ⌝ }
 {
     let dest = i.dest;
-    let x = st.loc(a);
-    let y = st.loc(b);
+    let x = state::home_in(homes, a);
+    let y = state::home_in(homes, b);
     Instruction {
         id: i.id,
         op: Op::Two(o),
@@ -191,42 +247,42 @@ pub fn make_two_instr(st: LvnState, i: Instruction, o: Two, a: ValNum, b: ValNum
 }
 
 // The instruction of a value; one that is new each time stays.
-pub fn val_to_instr(st: LvnState, i: Instruction, v: Value) -> Instruction
+pub fn val_to_instr(homes: &[u16], i: Instruction, v: Value) -> Instruction
     requires { ⌜ i .count ≤ 8 ⌝ }
     ensures { λ r. ⌜
-        ((hs ns : List ℕ) → instr-of r ≡ written-as (state-of st hs ns) (instr-of i) (expr-of v)) ×
+        ((s : State) → s .locs ≡ locs-of (now (homes .entry)) → instr-of r ≡ written-as s (instr-of i) (expr-of v)) ×
         (r .count ≤ 8) ⌝ }
 {
     match v {
         Value::Unique(_) => i,
-        Value::Add(a, b) => make_two_instr(st, i, Two::Add, a, b),
-        Value::Mul(a, b) => make_two_instr(st, i, Two::Mul, a, b),
-        Value::Sub(a, b) => make_two_instr(st, i, Two::Sub, a, b),
-        Value::Div(a, b) => make_two_instr(st, i, Two::Div, a, b),
-        Value::Id(a) => make_one_instr(st, i, One::Id, a),
-        Value::Eq(a, b) => make_two_instr(st, i, Two::Eq, a, b),
-        Value::Lt(a, b) => make_two_instr(st, i, Two::Lt, a, b),
-        Value::Gt(a, b) => make_two_instr(st, i, Two::Gt, a, b),
-        Value::Le(a, b) => make_two_instr(st, i, Two::Le, a, b),
-        Value::Ge(a, b) => make_two_instr(st, i, Two::Ge, a, b),
-        Value::And(a, b) => make_two_instr(st, i, Two::And, a, b),
-        Value::Or(a, b) => make_two_instr(st, i, Two::Or, a, b),
-        Value::Not(a) => make_one_instr(st, i, One::Not, a),
+        Value::Add(a, b) => make_two_instr(homes, i, Two::Add, a, b),
+        Value::Mul(a, b) => make_two_instr(homes, i, Two::Mul, a, b),
+        Value::Sub(a, b) => make_two_instr(homes, i, Two::Sub, a, b),
+        Value::Div(a, b) => make_two_instr(homes, i, Two::Div, a, b),
+        Value::Id(a) => make_one_instr(homes, i, One::Id, a),
+        Value::Eq(a, b) => make_two_instr(homes, i, Two::Eq, a, b),
+        Value::Lt(a, b) => make_two_instr(homes, i, Two::Lt, a, b),
+        Value::Gt(a, b) => make_two_instr(homes, i, Two::Gt, a, b),
+        Value::Le(a, b) => make_two_instr(homes, i, Two::Le, a, b),
+        Value::Ge(a, b) => make_two_instr(homes, i, Two::Ge, a, b),
+        Value::And(a, b) => make_two_instr(homes, i, Two::And, a, b),
+        Value::Or(a, b) => make_two_instr(homes, i, Two::Or, a, b),
+        Value::Not(a) => make_one_instr(homes, i, One::Not, a),
         Value::Bool(b) => make_const_instr(i, Literal::Bool(b)),
         Value::Int(z) => make_const_instr(i, Literal::Int(z)),
         Value::IntAsFloat(z) => make_const_instr(i, Literal::Int(z)),
-        Value::PtrAdd(a, b) => make_two_instr(st, i, Two::PtrAdd, a, b),
+        Value::PtrAdd(a, b) => make_two_instr(homes, i, Two::PtrAdd, a, b),
     }
 }
 
 // A number that is there: "const if the constant is known, else id of its home".
-pub fn make_id_instr(k: Known, st: LvnState, i: Instruction, v: ValNum) -> Instruction
+pub fn make_id_instr(k: Known, homes: &[u16], i: Instruction, v: ValNum) -> Instruction
     ensures { λ r. ⌜
-        ((hs ns : List ℕ) → instr-of r ≡ make-id-instr (known-of k) (state-of st hs ns) (instr-of i) v) ×
+        ((s : State) → s .locs ≡ locs-of (now (homes .entry)) → instr-of r ≡ make-id-instr (known-of k) s (instr-of i) v) ×
         (r .count ≤ 8) ⌝ }
 {
     match k {
-        Known::Nothing => make_one_instr(st, i, One::Id, v),
+        Known::Nothing => make_one_instr(homes, i, One::Id, v),
         Known::Int(w) => make_const_instr(i, Literal::Int(words::of_bits(w))),
         Known::Bool(b) => make_const_instr(i, Literal::Bool(b)),
     }
@@ -235,21 +291,23 @@ pub fn make_id_instr(k: Known, st: LvnState, i: Instruction, v: ValNum) -> Instr
 // What is written: w where the value has no number yet, else a copy of its number.
 pub fn choose(
     number: Numbered,
-    st: LvnState,
+    homes: &[u16],
     heads: &[u64],
     nums: &[u64],
+    count: u16,
     i: Instruction,
     w: Instruction,
 ) -> Instruction
-    requires { ⌜ (w .count ≤ 8) × ((st .count ≤ length (now heads)) × (st .count ≤ length (now nums))) ⌝ }
+    requires { ⌜ (w .count ≤ 8) × ((count ≤ length (now heads)) × (count ≤ length (now nums))) ⌝ }
     ensures { λ r. ⌜
-        (instr-of r ≡
-        chosen (state-of st (now (heads .entry)) (now (nums .entry))) (instr-of i) (instr-of w) (numbered-of number)) ×
+        ((s : State) → s .locs ≡ locs-of (now (homes .entry)) →
+        s .vals ≡ vals-of (now (heads .entry)) (now (nums .entry)) count →
+        instr-of r ≡ chosen s (instr-of i) (instr-of w) (numbered-of number)) ×
         (r .count ≤ 8) ⌝ }
 {
     match number {
         Numbered::Unseen => w,
-        Numbered::Is(v) => make_id_instr(st.known(heads, nums, v), st, i, v),
+        Numbered::Is(v) => make_id_instr(values::known_at(heads, nums, count, v), homes, i, v),
     }
 }
 
@@ -273,7 +331,7 @@ pub fn place(
         (r .instr .count ≤ 8) ⌝ }
 {
     let dest = i.dest;
-    let w = val_to_instr(st, i, v);
+    let w = val_to_instr(&st.homes, i, v);
     let saved = st.handle_overwrite(n, dest, v);
     let made = saved.made;
     let settled = saved.state.number_dest(heads, nums, dest, v);
@@ -282,7 +340,7 @@ pub fn place(
     Emitted {
         state: s,
         made: made,
-        instr: choose(number, s, heads, nums, i, w),
+        instr: choose(number, &s.homes, heads, nums, s.count, i, w),
     }
 }
 
@@ -300,7 +358,20 @@ pub fn unchanged(st: LvnState, i: Instruction) -> Emitted
     }
 }
 
-// By the operation: const, the operators and what is new each time have a dest.
+// Const, the operators and what is new each time have a dest.
+pub fn has_dest(op: Op) -> bool
+    ensures { λ r. ⌜ r ≡ has-dest op ⌝ }
+{
+    match op {
+        Op::Const => true,
+        Op::One(_) => true,
+        Op::Two(_) => true,
+        Op::New(_) => true,
+        _ => false,
+    }
+}
+
+// By the operation.
 pub fn emit(
     op: Op,
     st: LvnState,
@@ -318,13 +389,10 @@ pub fn emit(
         by-op n (state-of st (now (heads .entry)) (now (nums .entry))) (instr-of i) op (expr-of v)) ×
         (r .instr .count ≤ 8) ⌝ }
 {
-    match op {
-        Op::Effect(_) => unchanged(st, i),
-        Op::Nop => unchanged(st, i),
-        Op::Jmp => unchanged(st, i),
-        Op::Br => unchanged(st, i),
-        Op::Ret => unchanged(st, i),
-        _ => place(st, heads, nums, n, i, v),
+    if has_dest(op) {
+        place(st, heads, nums, n, i, v)
+    } else {
+        unchanged(st, i)
     }
 }
 
@@ -361,7 +429,7 @@ pub fn instr_lvn(
     let op = i.op;
     let t = type_of(types, dest);
     let s = st.gen_new_vals(heads, args, i.count);
-    let v = make_val(s, heads, nums, i, t);
-    let j = rewrite_instr(s, i);
+    let v = make_val(&s.env, heads, nums, s.count, i, t);
+    let j = rewrite_instr(&s.env, &s.homes, i);
     emit(op, s, heads, nums, n, j, v)
 }

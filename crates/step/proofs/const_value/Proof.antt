@@ -13,17 +13,25 @@ use Rattle.step.proofs.const_value.Tie as tie
 
 returns : tie.Need-returns
 unfolding expr-of literal-of
-returns c = let a = c .before .before .before .before .args in
-    let z = c .before .before .l .given .0 .0 in
+returns c =
+    let c2 = c .before .before in
+    let c4 = c2 .before .before in
+    let a = c4 .args in
+    let z = c2 .l .given .0 .0 in
     let same : toZ w64 (ofZ w64 z) ≡ z = search needs in
-    λ s. ap (λ (y : ℤ). expr-of (IntAsFloat y)) same ∙ const-float s (a .t) (ofZ w64 z) (c .if1 .taken) ∙ ap (const-of s (a .t)) (sym (c .before .before .l .given .1))
+    λ s. ap (λ (y : ℤ). expr-of (IntAsFloat y)) same ∙ const-float s (a .t) (ofZ w64 z) (c .if1 .taken) ∙
+    ap (const-of s (a .t)) (sym (c2 .l .given .1))
 
 returns-2 : tie.Need-returns-2
 unfolding expr-of literal-of
-returns-2 c = let a = c .before .before .before .before .args in
-    let z = c .before .before .l .given .0 .0 in
+returns-2 c =
+    let c2 = c .before .before in
+    let c4 = c2 .before .before in
+    let a = c4 .args in
+    let z = c2 .l .given .0 .0 in
     let same : toZ w64 (ofZ w64 z) ≡ z = search needs in
-    λ s. ap (λ (y : ℤ). expr-of (Int y)) same ∙ const-int s (a .t) (ofZ w64 z) (c .if1 .left) ∙ ap (const-of s (a .t)) (sym (c .before .before .l .given .1))
+    λ s. ap (λ (y : ℤ). expr-of (Int y)) same ∙ const-int s (a .t) (ofZ w64 z) (c .if1 .left) ∙
+    ap (const-of s (a .t)) (sym (c2 .l .given .1))
 
 returns-3 : tie.Need-returns-3
 unfolding expr-of literal-of

@@ -13,8 +13,18 @@ use Rattle.step.proofs.make_one_instr.Tie as tie
 
 returns : tie.Need-returns
 unfolding instr-of code-of literal-of
-returns c = let a = c .before .before .args in
-    ((λ z. record { id = a .i .id; code = code1 (a .o); dest = a .i .dest; lit = no-lit; args = c .loc .ensures z ∷ []; callee = 0; blocks = take (one-shape (a .o) z .blocks) (0 ∷ 0 ∷ []) }), omega arith)
+returns c = let a = c .before .before .before .args in (
+  (λ z. record {
+    id = a .i .id;
+    code = code1 (a .o);
+    dest = a .i .dest;
+    lit = no-lit;
+    args = c .home-in .ensures z ∷ [];
+    callee = 0;
+    blocks = take (one-shape (a .o) z .blocks) (0 ∷ 0 ∷ []);
+  }),
+  omega arith,
+)
 
 pub make-one-instr-spec : {M : Type 1} → statement M
 make-one-instr-spec = tie.close (tie.spec (λ c κs. search needs) returns)

@@ -13,8 +13,18 @@ use Rattle.step.proofs.make_two_instr.Tie as tie
 
 returns : tie.Need-returns
 unfolding instr-of code-of literal-of
-returns c = let a = c .before .before .before .args in
-    ((λ z. record { id = a .i .id; code = code2 (a .o); dest = a .i .dest; lit = no-lit; args = c .before .loc .ensures z ∷ c .loc2 .ensures z ∷ []; callee = 0; blocks = take (two-shape (a .o) z .blocks) (0 ∷ 0 ∷ []) }), omega arith)
+returns c = let a = c .before .before .before .before .args in (
+  (λ z. record {
+    id = a .i .id;
+    code = code2 (a .o);
+    dest = a .i .dest;
+    lit = no-lit;
+    args = c .before .home-in .ensures z ∷ c .home-in2 .ensures z ∷ [];
+    callee = 0;
+    blocks = take (two-shape (a .o) z .blocks) (0 ∷ 0 ∷ []);
+  }),
+  omega arith,
+)
 
 pub make-two-instr-spec : {M : Type 1} → statement M
 make-two-instr-spec = tie.close (tie.spec (λ c κs. search needs) (λ c κs. search needs) returns)

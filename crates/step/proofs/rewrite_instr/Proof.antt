@@ -10,8 +10,18 @@ use Rattle.step.proofs.rewrite_instr.Tie as tie
 
 returns : tie.Need-returns
 unfolding instr-of
-returns c = let i = c .before .before .before .before .args .i in
-    ((λ hs ns z. record { id = i .id; code = code-of (i .op); dest = i .dest; lit = literal-of (i .literal); args = c .replace-args .ensures hs ns z; callee = i .callee; blocks = take (shape-of (code-of (i .op)) .blocks) (i .blocks) }), refl)
+returns c = let i = c .before .before .before .before .before .before .args .i in (
+  (λ s d e z. record {
+    id = i .id;
+    code = code-of (i .op);
+    dest = i .dest;
+    lit = literal-of (i .literal);
+    args = c .replace-args .ensures s d e z;
+    callee = i .callee;
+    blocks = take (shape-of (code-of (i .op)) .blocks) (i .blocks);
+  }),
+  refl,
+)
 
 pub rewrite-instr-spec : {M : Type 1} → statement M
 rewrite-instr-spec = tie.close (tie.spec (λ c κs. search needs) returns)
