@@ -3,23 +3,22 @@
 use Prim.Native.Nat.{ℕ, zero, suc, _+_, _-_, _<_, _≤_}
 use mathlib.Core.Path.{_≡_, refl, sym, ap, _∙_, subst}
 use mathlib.Core.List.{List, [], _∷_}
-use mathlib.Core.Bool.{Bool, true, false, cond, _&&_}
+use mathlib.Core.Bool.{Bool, true, false, cond}
 use native.Mathlib.Omega.{arith}
 use lib.ListN.{length, getD, take, drop}
-use lib.Dec.{ltb, leb, eqb}
+use lib.Dec.{ltb, eqb}
 use borrow.Author.Tests.{lt-ltb, le-ltb, lt-leb, le-leb, eq-eqb, ne-eqb, ltb-false}
 use Rattle.record.specs.declared.Refusal.{Refusal}
 use Rattle.record.specs.declared.Refusal.the-variants.{Length, Name}
 use Rattle.record.specs.declared.Test.the-variants.{Passes}
 use Rattle.record.specs.declared.Next.{Next}
 use Rattle.record.specs.declared.Next.the-variants as next
-use Rattle.record.specs.declared.Checked.{Checked}
 use Rattle.record.specs.declared.Checked.the-variants as checks
-use Rattle.record.specs.Record.{Placed, Record, limits, plain, function, type-in}
-use Rattle.record.specs.Reader.{Res, got, fault, Reader, then, refuse, judge, give, here, _>>=_, num-at, field, text, times}
+use Rattle.record.specs.Record.{Placed, Record, limits}
+use Rattle.record.specs.Reader.{Res, got, fault, refuse, give, here, num-at, field, text, times}
 use Rattle.record.specs.Tests.{any}
 use Rattle.record.specs.Read.{read}
-use Rattle.record.specs.Typing.{body-types, block-types, accept, well-typed}
+use Rattle.record.specs.Typing.{accept}
 use Rattle.record.specs.Answer.{verdict, checked, checked-as}
 use Rattle.record.specs.Decode.{behind, name-end, record-from}
 use Rattle.record.proofs.Takes.{bind-got}

@@ -20,3 +20,4 @@ pub mod Accepted
 pub mod Instances
 pub mod Computed
 pub mod Theorems
+pub mod Contract

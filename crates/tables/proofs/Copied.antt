@@ -18,7 +18,7 @@ use Rattle.record.proofs.Tests.{and-right, need-passes}
 use Rattle.tables.specs.Named.{Short}
 use Rattle.emit.proofs.Parts.{part-less}
 
-behind-on : (s : List ℕ) (n at : ℕ) → at ≤ behind (name-end s) at n
+pub behind-on : (s : List ℕ) (n at : ℕ) → at ≤ behind (name-end s) at n
 unfolding behind name-end
 behind-on s zero at = omega arith
 behind-on s (suc n) at = let h : name-end s at ≤ behind (name-end s) (name-end s at) n = behind-on s n (name-end s at) in omega arith

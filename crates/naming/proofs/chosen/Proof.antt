@@ -1,5 +1,3 @@
-use native.Mathlib.Omega.{arith}
-use mathlib.Core.Path.{sym, ap, _∙_}
 use Rattle.naming.proofs.Laws.{chosen-few, chosen-past, chosen-first, chosen-second}
 use borrow.Author.Needs.{needs}
 use Rattle.naming.proofs.chosen.Statement.{statement}

@@ -1,4 +1,3 @@
-use native.Mathlib.Omega.{arith}
 use Rattle.naming.proofs.Laws.{head-short, head-length, head-version}
 use borrow.Author.Needs.{needs}
 use Rattle.naming.proofs.headed.Statement.{statement}
@@ -15,7 +14,8 @@ returns-2 c =
 returns-3 : tie.Need-returns-3
 returns-3 c =
     let a = c .before .before .before .before .before .args in
-    head-version (a .version) (a .s .now) (c .before .before .before .if1 .left) _ _ (c .before .before .be32 .ensures .0) (c .before .if2 .left) (c .byte-or .ensures .0)
+    head-version (a .version) (a .s .now) (c .before .before .before .if1 .left) _ _
+    (c .before .before .be32 .ensures .0) (c .before .if2 .left) (c .byte-or .ensures .0)
 
 pub headed-spec : {M : Type 1} → statement M
 headed-spec =

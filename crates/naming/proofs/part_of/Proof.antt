@@ -1,6 +1,5 @@
-use mathlib.Core.Path.{sym, ap, _∙_}
-use mathlib.Core.Bool.{Bool, cond}
-use Rattle.naming.proofs.Laws.{input-refused, input-accepted, refused-lies, when-headed, when-not}
+use mathlib.Core.Path.{sym, _∙_}
+use Rattle.naming.proofs.Laws.{input-refused, refused-lies, when-headed, when-not}
 use borrow.Author.Needs.{needs}
 use Rattle.naming.proofs.part_of.Statement.{statement}
 use Rattle.naming.proofs.part_of.Tie as tie

@@ -1,0 +1,136 @@
+-- From what was measured and written to the answer of rewrite and to its whole output.
+use Prim.Native.Nat.{ℕ, _+_, _*_, _<_, _≤_}
+use mathlib.Core.Path.{_≡_, refl, sym, ap, _∙_}
+use mathlib.Core.List.{List, map}
+use mathlib.Core.Bool.{true, false}
+use native.Mathlib.Omega.{arith}
+use lib.ListN.{length, take, drop, replicate, length-map, length-replicate}
+use lib.Seq.{sets, sets-eq, take-append-seam}
+use lib.Dec.{ltb}
+use borrow.Author.Tests.{lt-ltb, le-ltb}
+use Rattle.record.specs.declared.Refusal.{Refusal}
+use Rattle.record.specs.declared.Checked.the-variants as answer
+use Rattle.record.specs.Record.{Placed, Name, Record, limits}
+use Rattle.record.specs.Reader.{Res, got, fault}
+use Rattle.record.specs.Read.{read}
+use Rattle.record.specs.Typing.{accept}
+use Rattle.record.specs.Write.{bytes}
+use Rattle.record.specs.Answer.{checked-as, checked}
+use Rattle.record.specs.Decode.{items, behind, name-from, name-end, names-count, names-end, record-from}
+use Rattle.record.proofs.Decode.{length-items}
+use Rattle.record.proofs.Typed.{accept-typed}
+use Rattle.numbering.specs.declared.Rewritten.the-variants.{Written, Refused, Room}
+use Rattle.numbering.specs.Made.{made}
+use Rattle.numbering.specs.Rewrite.{rewritten-bytes, rewrite-result, rewrite-output, rewrite, rewrite-leaves}
+use Rattle.emit.specs.Put.{put}
+use Rattle.emit.proofs.Put.{put-first}
+use Rattle.typing.specs.Passes.{types-from}
+use Rattle.blocks.proofs.Whole.{record-again}
+use Rattle.rewrite.specs.Parts.{record-in, rewriting-in, Reads, types-in}
+use Rattle.rewrite.proofs.Known.{few-names}
+
+-- ---- the table of types, its first n entries
+pub types-first :
+    (s table : List ℕ) (n : ℕ) → n ≡ names-count s → n ≤ 256 → table ≡ sets (replicate 256 0) 0 (types-from s 8 n) →
+    take n table ≡ types-in s
+unfolding types-from record-from
+types-first s table n e h f =
+    let ts = types-from s 8 n in
+    let many : length ts ≡ n =
+    length-map (items (name-from s) (name-end s) 8 n) (λ (x : Name). x .type) ∙ length-items (name-from s) (name-end s) n 8 in
+    let room : 0 + length ts ≤ length (replicate {A = ℕ} 256 0) = omega (arith, length-replicate {A = ℕ} 256 0, many, h) in
+    (λ i. take (sym many i) ((f ∙ sets-eq ts (replicate 256 0) 0 room) i)) ∙
+    take-append-seam ts (drop (0 + length ts) (replicate 256 0)) ∙
+    ap (λ (k : ℕ). map (λ (x : Name). x .type) (items (name-from s) (name-end s) 8 k)) e
+
+-- ---- an accepted record
+record Got (s : List ℕ) : Type 0 where
+  pub it : Record Placed
+  pub behind : ℕ
+  pub got : accept limits s ≡ got it behind
+
+accepted-got : (s : List ℕ) → checked s ≡ answer.Accepted → Got s
+unfolding checked
+accepted-got s h = go (accept limits s) refl h
+  where
+    go : (v : Res (Record Placed)) → accept limits s ≡ v → checked-as v ≡ answer.Accepted → Got s
+    go (got r p) e h = record { it = r; behind = p; got = e }
+    go (fault k o) e h = let z : _≡_ {A = ℕ} 0 1 = cc in absurd (omega arith)
+
+module _ (s : List ℕ) (h : checked s ≡ answer.Accepted) where
+  reads : read limits s 0 ≡ got (accepted-got s h .it) (accepted-got s h .behind)
+  reads = accept-typed limits s _ _ (accepted-got s h .got) .reads
+
+  pub accepted-few : names-count s ≤ 256
+  accepted-few = few-names s _ _ reads
+
+  pub accepted-reads : {n end : ℕ} → n ≡ names-count s → end ≡ behind (name-end s) 8 n → end ≤ 8 + 257 * n → Reads s end
+  unfolding names-end
+  accepted-reads e f g =
+      record {
+        it = accepted-got s h .it;
+        behind = accepted-got s h .behind;
+        reads = reads;
+        names = f ∙ ap (behind (name-end s) 8) e;
+        near = omega (arith, e, g, accepted-few);
+      }
+
+  -- what rewrite's definition says of it
+  same : accepted-got s h .it ≡ record-from s
+  same = record-again s _ _ reads
+
+  pub accepted-result : (out : List ℕ) → rewrite-result (length out) (got (record-from s) 0) ≡ rewrite s out
+  unfolding rewrite rewrite-result
+  accepted-result out =
+      ap (λ (r : Record Placed). rewrite-result (length out) (got r 0)) (sym same) ∙
+      sym (ap (rewrite-result (length out)) (accepted-got s h .got))
+
+  pub accepted-output : (out : List ℕ) → rewrite-output out (got (record-from s) 0) ≡ rewrite-leaves s out
+  unfolding rewrite-leaves rewrite-output
+  accepted-output out =
+      ap (λ (r : Record Placed). rewrite-output out (got r 0)) (sym same) ∙ sym (ap (rewrite-output out) (accepted-got s h .got))
+
+-- ---- a refusal of check
+module _ (s : List ℕ) (k : Refusal) (o : ℕ) (h : checked s ≡ answer.Refused k o) (out : List ℕ) where
+  pub refused-result : Refused k o ≡ rewrite s out
+  unfolding rewrite rewrite-result checked
+  refused-result = go (accept limits s) h
+    where
+      go : (v : Res (Record Placed)) → checked-as v ≡ answer.Refused k o → Refused k o ≡ rewrite-result (length out) v
+      go (got r p) e = let z : _≡_ {A = ℕ} 0 1 = cc in absurd (omega arith)
+      go (fault a b) e = cc
+
+  pub refused-output : out ≡ rewrite-leaves s out
+  unfolding rewrite-leaves rewrite-output checked
+  refused-output = go (accept limits s) h
+    where
+      go : (v : Res (Record Placed)) → checked-as v ≡ answer.Refused k o → out ≡ rewrite-output out v
+      go (got r p) e = let z : _≡_ {A = ℕ} 0 1 = cc in absurd (omega arith)
+      go (fault a b) e = refl
+
+-- ---- written, or too little room; n: the bytes needed
+module _ (s : List ℕ) (n : ℕ) (size : n ≡ length (bytes (rewriting-in s))) (out : List ℕ) where
+  short : length out < n → ltb (length out) (length (bytes (rewriting-in s))) ≡ true
+  short l = lt-ltb (length out) (length (bytes (rewriting-in s))) (omega (arith, size, l))
+
+  long : n ≤ length out → ltb (length out) (length (bytes (rewriting-in s))) ≡ false
+  long l = le-ltb (length out) (length (bytes (rewriting-in s))) (omega (arith, size, l))
+
+  pub room-result : length out < n → Room n ≡ rewrite-result (length out) (got (record-from s) 0)
+  unfolding rewrite-result rewritten-bytes
+  room-result l = rw (short l) (ap Room size)
+
+  pub room-output : length out < n → out ≡ rewrite-output out (got (record-from s) 0)
+  unfolding rewrite-output rewritten-bytes
+  room-output l = rw (short l) refl
+
+  pub written-result :
+      {k : ℕ} → n ≤ length out → k ≡ length (made (record-in s)) →
+      Written n k ≡ rewrite-result (length out) (got (record-from s) 0)
+  unfolding rewrite-result rewritten-bytes
+  written-result l e = rw (long l) (λ i. Written (size i) (e i))
+
+  pub written-output :
+      {out′ : List ℕ} → n ≤ length out → out′ ≡ put out 0 (bytes (rewriting-in s)) → out′ ≡ rewrite-output out (got (record-from s) 0)
+  unfolding rewrite-output rewritten-bytes
+  written-output l e = rw (long l) (e ∙ put-first out (bytes (rewriting-in s)) (omega (arith, size, l)))

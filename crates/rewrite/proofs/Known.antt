@@ -1,0 +1,221 @@
+-- What the code knows of a record that is read without a fault: its counts, what numbering its blocks asks and what it then has.
+use Prim.Native.Nat.{ℕ, _+_, _-_, _<_, _≤_}
+use mathlib.Core.Path.{_≡_, refl, sym, ap, _∙_, subst}
+use mathlib.Core.List.{List, [], _∷_, _++_, map}
+use native.Mathlib.Omega.{arith}
+use lib.ListN.{length, getD, take, drop, length-map, List·getD-map}
+use lib.Seq.{getD-take, take-append-seam}
+use Rattle.record.specs.declared.NameIx.{NameIx}
+use Rattle.record.specs.Record.{nm, Instr, Placed, Block, Name, Record, Function, plain-block, plain, function, limits, id-bytes}
+use Rattle.record.specs.Reader.{got, num-at}
+use Rattle.record.specs.Read.{read}
+use Rattle.record.specs.Good.{RecordOk}
+use Rattle.record.specs.Write.{be, join, name-bytes, block-bytes}
+use Rattle.record.specs.Decode.{name-from, name-end, block-from, block-end, names-count, names-end, record-from}
+use Rattle.record.proofs.Tests.{at-most-le, names-limit, names-args}
+use Rattle.record.proofs.Accepted.{read-ok}
+use Rattle.record.proofs.Decode.{length-items}
+use Rattle.numbering.specs.Number.{lvn}
+use Rattle.numbering.specs.Made.{made-names, made, rewriting}
+use Rattle.numbering.proofs.Wide.{made-few, made-original, rewriting-names, blocks-length}
+use Rattle.emit.specs.Put.{put, Wrote, IdWidth}
+use Rattle.emit.proofs.Put.{put-first, length-put}
+use Rattle.emit.proofs.Numbers.{id-width}
+use Rattle.tables.specs.Named.{Named, Short}
+use Rattle.tables.proofs.Copied.{behind-on, names-copied, names-short}
+use Rattle.blocks.specs.declared.Places.{Places}
+use Rattle.blocks.specs.Block.{indexes}
+use Rattle.blocks.specs.Blocks.{blocks-in, BlocksPass, BlocksAsk, BlocksDone}
+use Rattle.blocks.proofs.Whole.{record-again, accepted-blocks, accepted-pass, blocks-again, blocks-written, made-noted, made-many}
+use Rattle.rewrite.specs.Parts.{record-in, rewriting-in, front-parts, blocks-bytes, Reads, types-in, Noted}
+use Rattle.rewrite.proofs.Inside.{names-inside}
+use Rattle.rewrite.proofs.Parts.{front-written}
+
+-- ---- its fields, by their places
+pub version-in : (s : List ℕ) → record-in s .version ≡ num-at s 4 1
+unfolding record-from
+version-in s = refl
+
+pub args-in : (s : List ℕ) → record-in s .args ≡ num-at s 5 1
+unfolding record-from
+args-in s = refl
+
+pub names-in : (s : List ℕ) → length (record-in s .names) ≡ names-count s
+unfolding record-from
+names-in s = length-items (name-from s) (name-end s) (names-count s) 8
+
+pub blocks-number : (s : List ℕ) → length (record-in s .blocks) ≡ num-at s (names-end s) 2
+unfolding record-from
+blocks-number s =
+    let w = id-bytes (num-at s 4 1) in
+    length-map (record-from s .blocks) plain-block ∙
+    length-items (block-from w s) (block-end w s) (num-at s (names-end s) 2) (names-end s + 2)
+
+module _ (s : List ℕ) (r : Record Placed) (p : ℕ) (e : read limits s 0 ≡ got r p) where
+  pub read-good : RecordOk limits (record-in s)
+  read-good = subst (λ (r : Record Placed). RecordOk limits (plain r)) (record-again s r p e) (read-ok limits s r p e)
+
+  pub few-names : names-count s ≤ 256
+  few-names =
+      let n : length (record-in s .names) ≤ 256 = names-limit 256 (record-in s .args) (length (record-in s .names)) (read-good .size) in
+      omega (arith, n, names-in s)
+
+module _ {s : List ℕ} {end : ℕ} (h : Reads s end) where
+  pub record-ok : RecordOk limits (record-in s)
+  record-ok = read-good s (h .it) (h .behind) (h .reads)
+
+  pub few-original : names-count s ≤ 256
+  few-original = few-names s (h .it) (h .behind) (h .reads)
+
+  pub few-blocks : num-at s end 2 ≤ 64
+  few-blocks =
+      let n : length (record-in s .blocks) ≤ 64 = at-most-le 64 (length (record-in s .blocks)) (record-ok .count) in
+      rw (h .names) (omega (arith, n, blocks-number s))
+
+  pub few-args : num-at s 5 1 ≤ 256
+  few-args =
+      let n : record-in s .args ≤ length (record-in s .names) =
+      names-args 256 (record-in s .args) (length (record-in s .names)) (record-ok .size) in
+      omega (arith, n, args-in s, names-in s, few-original)
+
+  pub names-on : 8 ≤ end
+  unfolding names-end
+  names-on = rw (h .names) (behind-on s (names-count s) 8)
+
+  names-lie : names-end s ≤ length s
+  names-lie = omega (arith, names-inside limits s (h .it) (h .behind) (h .reads))
+
+  types-many : {types : List ℕ} → types ≡ types-in s → length types ≡ names-count s
+  types-many e = ap length e ∙ length-map (record-in s .names) (λ (x : Name). x .type) ∙ names-in s
+
+  -- ---- numbering its blocks
+  blocks-at : (w count : ℕ) → w ≡ id-bytes (num-at s 4 1) → count ≡ num-at s end 2 → record-in s .blocks ≡ blocks-in w s (end + 2) count
+  blocks-at w count e f =
+      blocks-again s ∙
+      (λ i. blocks-in (sym e i) s (sym (h .names) i + 2) (sym (f ∙ ap (λ (k : ℕ). num-at s k 2) (h .names)) i))
+
+  pub blocks-pass :
+      {types : List ℕ} (w count : ℕ) → types ≡ types-in s → w ≡ id-bytes (num-at s 4 1) → count ≡ num-at s end 2 →
+      BlocksPass (length types) (blocks-in w s (end + 2) count)
+  blocks-pass {types} w count t e f =
+      let again = record-again s (h .it) (h .behind) (h .reads) in
+      let same : blocks-in w s (end + 2) count ≡ plain (h .it) .blocks =
+      sym (blocks-at w count e f) ∙ sym (ap (λ (r : Record Placed). plain r .blocks) again) in
+      let many : length (plain (h .it) .names) ≡ length types =
+      ap (λ (r : Record Placed). length (r .names)) again ∙ names-in s ∙ sym (types-many t) in
+      subst (λ (n : ℕ). BlocksPass n (blocks-in w s (end + 2) count)) many
+      (subst (BlocksPass (length (plain (h .it) .names)))
+      (sym (accepted-blocks s (h .it) (h .behind) (h .reads)) ∙ sym same)
+      (accepted-pass s (h .it) (h .behind) (h .reads)))
+
+  pub blocks-ask :
+      {types hs ns : List ℕ} (w args at count : ℕ) →
+      types ≡ types-in s → w ≡ id-bytes (num-at s 4 1) → args ≡ num-at s 5 1 → count ≡ num-at s end 2 → at ≤ 4000000 →
+      512 ≤ length hs → 512 ≤ length ns →
+      BlocksAsk w (length types) args (record { p = end + 2; q = at; k = 0 }) count hs ns
+  blocks-ask w args at count t e a f b i j =
+      let n : count ≤ 64 = omega (arith, f, few-blocks) in
+      let m : end ≤ 70000 = h .near in
+      record {
+        width = subst IdWidth (sym e) (id-width (num-at s 4 1));
+        names = omega (arith, types-many t, few-original);
+        arguments = omega (arith, a, few-args);
+        made = omega arith;
+        reads = omega arith;
+        writes = omega arith;
+        tables = record { heads = i; nums = j };
+      }
+
+  module _
+      {types names names′ out out′ : List ℕ} {r : Places} (w args at count : ℕ)
+      (t : types ≡ types-in s)
+      (e : w ≡ id-bytes (num-at s 4 1))
+      (a : args ≡ num-at s 5 1)
+      (f : count ≡ num-at s end 2)
+      (done :
+      (bs : List (Block Instr)) →
+      BlocksDone w (record { args = args; types = types; blocks = bs }) s (record { p = end + 2; q = at; k = 0 }) r count
+      names names′ out out′)
+    where
+      exact : BlocksDone w (function (record-in s)) s (record { p = end + 2; q = at; k = 0 }) r count names names′ out out′
+      exact =
+          let same : _≡_ {A = Function} (record { args = args; types = types; blocks = record-in s .blocks }) (function (record-in s)) =
+          λ i. record { args = (a ∙ sym (args-in s)) i; types = t i; blocks = record-in s .blocks } in
+          subst
+          (λ (g : Function). BlocksDone w g s (record { p = end + 2; q = at; k = 0 }) r count names names′ out out′) same
+          (done (record-in s .blocks))
+
+      pub blocks-put : Wrote out out′ at (r .q) (blocks-bytes (rewriting-in s))
+      unfolding rewriting
+      blocks-put =
+          subst (λ (k : ℕ). Wrote out out′ at (r .q) (join (map (block-bytes k) (lvn (function (record-in s)) .blocks))))
+          (e ∙ ap id-bytes (sym (version-in s)))
+          (blocks-written (record-in s) refl (blocks-at w count e f) exact)
+
+      pub blocks-noted : 16384 ≤ length names → Noted s names′ (r .k)
+      blocks-noted room =
+          let x = record-in s in
+          let many : r .k ≡ length (made x) = made-many x refl (blocks-at w count e f) exact in
+          let few : length (made x) ≤ 16384 = made-few x record-ok in
+          let same : length (indexes (made x)) ≡ length (made x) = length-map (made x) (λ (y : NameIx). y .0) in
+          let noted : Wrote names names′ 0 (r .k) (indexes (made x)) = made-noted x refl (blocks-at w count e f) exact in
+          let whole : names′ ≡ indexes (made x) ++ drop (length (indexes (made x))) names =
+          noted .out ∙ put-first names (indexes (made x)) (omega (arith, same, few, room)) in
+          record {
+            many = many;
+            room = omega (arith, many, few, room, ap length (noted .out), length-put names 0 (indexes (made x)));
+            saved =
+                (λ i. take ((many ∙ sym same) i) (whole i)) ∙
+                take-append-seam (indexes (made x)) (drop (length (indexes (made x))) names);
+          }
+
+-- ---- the made names
+again : (xs : List NameIx) → map nm (indexes xs) ≡ xs
+again [] = refl
+again (x ∷ xs) = ap (λ (l : List NameIx). x ∷ l) (again xs)
+
+module _ {s names : List ℕ} {end k : ℕ} (h : Reads s end) (m : Noted s names k) where
+  pub few-made : k ≤ 16384
+  few-made = omega (arith, m .many, made-few (record-in s) (record-ok h))
+
+  pub made-named : Named names k (names-count s)
+  made-named j l =
+      let x = record-in s in
+      let e : getD names j 0 ≡ getD (made x) j (nm 0) .0 =
+      sym (getD-take k names j 0 l) ∙ ap (λ (t : List ℕ). getD t j 0) (m .saved) ∙ List·getD-map (λ (y : NameIx). y .0) (made x) j (nm 0) in
+      let o : getD (made x) j (nm 0) .0 < length (x .names) = made-original x (record-ok h) j (omega (arith, m .many, l)) in
+      omega (arith, e, o, names-in s)
+
+  pub made-short : Short s (names-count s)
+  made-short = names-short s (names-lie h) (record-ok h .names)
+
+  made-again : map nm (take k names) ≡ made (record-in s)
+  made-again = ap (map nm) (m .saved) ∙ again (made (record-in s))
+
+  -- ---- what stands before the blocks; l: L, v: version, a: A, n: N + K, b: B
+  pub front-put :
+      {o1 o2 o3 o4 o5 o6 : List ℕ} {p q : ℕ} (l v a n b : ℕ) →
+      o2 ≡ put o1 0 (be 4 l) →
+      Wrote o2 o3 4 8 (be 1 v ++ (be 1 a ++ be 2 n)) →
+      Wrote o3 o4 8 p (take (end - 8) (drop 8 s)) →
+      Wrote o4 o5 p q (join (map name-bytes (made-names (record-in s) 0 (map nm (take k names))))) →
+      o6 ≡ put o5 q (be 2 b) →
+      v ≡ num-at s 4 1 → a ≡ num-at s 5 1 → n ≡ names-count s + k → b ≡ num-at s end 2 →
+      Wrote o1 o6 0 (q + 2) (join (be 4 l ∷ front-parts (rewriting-in s)))
+  unfolding rewriting lvn
+  front-put {o1} {o3 = o3} {o4 = o4} {o5 = o5} {o6 = o6} {p = p} {q = q} l v a n b e1 e2 e3 e4 e5 ev ea en eb =
+      let x = record-in s in
+      let g3 : Wrote o3 o4 8 p (join (map name-bytes (x .names))) =
+      subst (Wrote o3 o4 8 p) (ap (λ (z : ℕ). take (z - 8) (drop 8 s)) (h .names) ∙ names-copied s (names-lie h)) e3 in
+      let g4 : Wrote o4 o5 p q (join (map name-bytes (made-names x 0 (made x)))) =
+      subst (λ (xs : List NameIx). Wrote o4 o5 p q (join (map name-bytes (made-names x 0 xs)))) made-again e4 in
+      let n′ : n ≡ length (x .names ++ made-names x 0 (made x)) =
+      en ∙ (λ i. sym (names-in s) i + m .many i) ∙ sym (rewriting-names x (record-ok h)) in
+      let b′ : b ≡ length (lvn (function x) .blocks) =
+      eb ∙ ap (λ (z : ℕ). num-at s z 2) (h .names) ∙ sym (blocks-number s) ∙ sym (blocks-length (function x) 0 (x .blocks)) in
+      subst
+      (λ (z : List (List ℕ)). Wrote o1 o6 0 (q + 2) (join (be 4 l ∷ z)))
+      (λ i.
+      be 1 ((ev ∙ sym (version-in s)) i) ∷ be 1 ((ea ∙ sym (args-in s)) i) ∷ be 2 (n′ i) ∷
+      join (map name-bytes (x .names ++ made-names x 0 (made x))) ∷ be 2 (b′ i) ∷ [])
+      (front-written l v a n b (x .names) (made-names x 0 (made x)) e1 e2 g3 g4 e5)

@@ -1,0 +1,55 @@
+use borrow.Author.Needs.{needs}
+use mathlib.Core.List.{[]}
+use mathlib.Core.Path.{ap, _∙_}
+use native.Mathlib.Omega.{arith}
+use Rattle.record.specs.Record.{id-bytes}
+use Rattle.rewrite.proofs.Known.{few-blocks, blocks-pass, blocks-ask, blocks-put, blocks-noted}
+use Rattle.rewrite.proofs.put_blocks.Statement.{statement}
+use Rattle.rewrite.proofs.put_blocks.Tie as tie
+
+blocks-lvn-requires : tie.Need-blocks-lvn-requires
+blocks-lvn-requires c κs =
+    let count = c .before .before .before .before in
+    let args = count .before in
+    let width = args .before in
+    let version = width .before in
+    let p = version .before .before .before .before .before .before .before .pre in
+    let w = width .id-bytes .ensures ∙ ap id-bytes (version .byte-or .ensures .0) in (
+      blocks-ask (p .0) _ _ _ _ (p .1 .0) w (args .byte-or2 .ensures .0) (count .be16 .ensures .0)
+          (p .1 .1 .0) (p .1 .1 .1 .0) (p .1 .1 .1 .1 .0),
+      blocks-pass (p .0) _ _ (p .1 .0) w (count .be16 .ensures .0),
+    )
+
+returns : tie.Need-returns
+returns c =
+    let call = c .before .before .before .before .before .before .before .before in
+    let count = call .before .before .before .before .before in
+    let args = count .before in
+    let width = args .before in
+    let version = width .before in
+    let p = version .before .before .before .before .before .before .before .pre in
+    let w = width .id-bytes .ensures ∙ ap id-bytes (version .byte-or .ensures .0) in
+    let done = call .blocks-lvn .ensures in (
+      blocks-put (p .0) _ _ _ _ (p .1 .0) w (args .byte-or2 .ensures .0) (count .be16 .ensures .0) done,
+      (
+        blocks-noted (p .0) _ _ _ _ (p .1 .0) w (args .byte-or2 .ensures .0) (count .be16 .ensures .0) done (p .1 .1 .1 .1 .1),
+        omega (arith, done [] .close, count .be16 .ensures .0, few-blocks (p .0)),
+      ),
+    )
+
+pub put-blocks-spec : {M : Type 1} → statement M
+put-blocks-spec =
+    tie.close
+    (tie.spec
+    (λ c κs. search needs)
+    (λ c κs. search needs)
+    (λ c κs. search needs)
+    (λ c. search needs)
+    (λ c κs. search needs)
+    (λ c. search needs)
+    blocks-lvn-requires
+    (λ c. search needs)
+    (λ c. search needs)
+    (λ c. search needs)
+    (λ c. search needs)
+    returns)

@@ -1,0 +1,45 @@
+-- The rewriting of an accepted record by its parts, and what is known of the record and of the made names while it is written.
+use Prim.Native.Nat.{ℕ, _≤_}
+use mathlib.Core.List.{List, [], _∷_, map}
+use mathlib.Core.Path.{_≡_}
+use lib.ListN.{length, take}
+use Rattle.record.specs.Record.{Instr, Placed, Record, function, plain, limits, id-bytes}
+use Rattle.record.specs.Reader.{got}
+use Rattle.record.specs.Read.{read}
+use Rattle.record.specs.Write.{be, join, name-bytes, block-bytes}
+use Rattle.record.specs.Decode.{names-end, record-from}
+use Rattle.numbering.specs.Made.{made, rewriting}
+use Rattle.blocks.specs.Block.{indexes}
+
+-- the record that stands in these bytes, and its rewriting
+abbrev pub record-in : List ℕ → Record Instr
+record-in s = plain (record-from s)
+
+abbrev pub rewriting-in : List ℕ → Record Instr
+rewriting-in s = rewriting (record-in s)
+
+-- what stands between L and the blocks
+abbrev pub front-parts : Record Instr → List (List ℕ)
+front-parts r =
+    be 1 (r .version) ∷ be 1 (r .args) ∷ be 2 (length (r .names)) ∷ join (map name-bytes (r .names)) ∷ be 2 (length (r .blocks)) ∷ []
+
+abbrev pub blocks-bytes : Record Instr → List ℕ
+blocks-bytes r = join (map (block-bytes (id-bytes (r .version))) (r .blocks))
+
+-- s is read without a fault, and its names end there
+pub record Reads (s : List ℕ) (end : ℕ) : Type 0 where
+  pub it : Record Placed
+  pub behind : ℕ
+  pub reads : read limits s 0 ≡ got it behind
+  pub names : end ≡ names-end s
+  pub near : end ≤ 70000
+
+-- the types of its names
+abbrev pub types-in : List ℕ → List ℕ
+types-in s = function (record-in s) .types
+
+-- K counts the saves of the rewriting, and the table holds what each K saved
+pub record Noted (s names : List ℕ) (k : ℕ) : Type 0 where
+  pub many : k ≡ length (made (record-in s))
+  pub room : k ≤ length names
+  pub saved : take k names ≡ indexes (made (record-in s))

@@ -1,0 +1,165 @@
+// Rewrite: a record is checked and its rewriting written. The blocks are numbered twice: over an empty output, which gives the bytes
+// needed and the names that are made, then over the output.
+use blocks::Places;
+use numbering::Rewritten;
+use record::Checked;
+ghost use mathlib.Core.Path.{_≡_};
+ghost use mathlib.Core.List.{_∷_};
+ghost use Prim.Native.Nat.{_+_, _<_, _≤_};
+ghost use lib.ListN.{length};
+ghost use Rattle.record.specs.Reader.{got};
+ghost use Rattle.record.specs.Write.{be, join, bytes};
+ghost use Rattle.record.specs.Answer.{checked};
+ghost use Rattle.record.specs.Decode.{record-from};
+ghost use Rattle.record.specs.declared.Checked.the-variants.{Accepted};
+ghost use Rattle.numbering.specs.Rewrite.{rewrite-result, rewrite-output, rewrite, rewrite-leaves};
+ghost use Rattle.emit.specs.Put.{put, Wrote};
+ghost use Rattle.rewrite.specs.Parts.{rewriting-in, front-parts, blocks-bytes, Reads, types-in, Noted};
+
+// The blocks of the rewriting, from a place on; the place behind them, and K. end: where the input's names end; names: what each K saved.
+pub fn put_blocks(
+    s: &[u8],
+    types: &[u8],
+    heads: &mut [u64],
+    nums: &mut [u64],
+    names: &mut [u16],
+    out: &mut [u8],
+    end: usize,
+    at: usize,
+) -> Places
+    requires { ⌜
+        Reads (now s) end × ((now types ≡ types-in (now s)) × ((at ≤ 4000000) ×
+        ((512 ≤ length (now heads)) × ((512 ≤ length (now nums)) × (16384 ≤ length (now names)))))) ⌝ }
+    ensures { λ r. ⌜
+        Wrote (now (out .entry)) (now (out .exit)) at (r .q) (blocks-bytes (rewriting-in (now (s .entry)))) ×
+        (Noted (now (s .entry)) (now (names .exit)) (r .k) × (r .q ≤ at + 2000000)) ⌝ }
+{
+    let w = head::id_bytes(fields::byte_or(s, 4));
+    let args = fields::byte_or(s, 5) as u16;
+    let count = fields::be16(s, end) as usize;
+    let a = Places {
+        p: end + 2,
+        q: at,
+        k: 0,
+    };
+    blocks::blocks_lvn(s, types, heads, nums, names, out, w, args, a, count)
+}
+
+// All that stands before the blocks: L, version, A and N, the names, B; the place behind it. rest: L; k: how many names are made.
+pub fn put_front(s: &[u8], names: &[u16], out: &mut [u8], end: usize, k: u16, rest: u32) -> usize
+    requires { ⌜ Reads (now s) end × Noted (now s) (now names) k ⌝ }
+    ensures { λ r. ⌜
+        Wrote (now (out .entry)) (now (out .exit)) 0 r (join (be 4 rest ∷ front-parts (rewriting-in (now (s .entry))))) ×
+        (r ≤ 4000000) ⌝ }
+{
+    let version = fields::byte_or(s, 4) as u8;
+    let args = fields::byte_or(s, 5) as u8;
+    let n = fields::be16(s, 6) as u16;
+    let count = fields::be16(s, end) as u16;
+    emit::put_u32(out, 0, rest);
+    tables::put_head(out, version, args, n + k);
+    let p = tables::copy_names(s, out, end);
+    let q = tables::put_made_names(out, p, s, names, k as usize);
+    emit::put_u16(out, q, count);
+    q + 2
+}
+
+// How many bytes the rewriting has, and how many saves.
+pub struct Size {
+    pub bytes: usize,
+    pub saves: u16,
+}
+
+// Both, learnt by writing to nothing; and the names that are made.
+pub fn measure(
+    s: &[u8],
+    types: &[u8],
+    heads: &mut [u64],
+    nums: &mut [u64],
+    names: &mut [u16],
+    end: usize,
+) -> Size
+    requires { ⌜
+        Reads (now s) end × ((now types ≡ types-in (now s)) ×
+        ((512 ≤ length (now heads)) × ((512 ≤ length (now nums)) × (16384 ≤ length (now names))))) ⌝ }
+    ensures { λ r. ⌜
+        (r .bytes ≡ length (bytes (rewriting-in (now (s .entry))))) ×
+        (Noted (now (s .entry)) (now (names .exit)) (r .saves) × (r .bytes ≤ 6000000)) ⌝ }
+{
+    let mut none = [0u8; 0];
+    let a = put_blocks(s, types, heads, nums, names, &mut none, end, 0);
+    let at = put_front(s, names, &mut none, end, a.k, 0);
+    Size {
+        bytes: at + a.q,
+        saves: a.k,
+    }
+}
+
+// The rewriting, whose size is known.
+pub fn put_record(
+    s: &[u8],
+    types: &[u8],
+    heads: &mut [u64],
+    nums: &mut [u64],
+    names: &mut [u16],
+    out: &mut [u8],
+    end: usize,
+    size: Size,
+)
+    requires { ⌜
+        Reads (now s) end × ((now types ≡ types-in (now s)) ×
+        ((512 ≤ length (now heads)) × ((512 ≤ length (now nums)) × ((16384 ≤ length (now names)) ×
+        (Noted (now s) (now names) (size .saves) ×
+        ((size .bytes ≡ length (bytes (rewriting-in (now s)))) × (size .bytes ≤ 6000000))))))) ⌝ }
+    ensures { λ _. ⌜ now (out .exit) ≡ put (now (out .entry)) 0 (bytes (rewriting-in (now (s .entry)))) ⌝ }
+{
+    let at = put_front(s, names, out, end, size.saves, (size.bytes - 4) as u32);
+    put_blocks(s, types, heads, nums, names, out, end, at);
+}
+
+// Of an accepted record, whose names have these types and end there.
+pub fn rewrite_typed(s: &[u8], types: &[u8], end: usize, out: &mut [u8]) -> Rewritten
+    requires { ⌜ Reads (now s) end × (now types ≡ types-in (now s)) ⌝ }
+    ensures { λ r. ⌜
+        (r ≡ rewrite-result (length (now (out .entry))) (got (record-from (now (s .entry))) 0)) ×
+        (now (out .exit) ≡ rewrite-output (now (out .entry)) (got (record-from (now (s .entry))) 0)) ⌝ }
+{
+    let mut heads = [0u64; 512];
+    let mut nums = [0u64; 512];
+    let mut names = [0u16; 16384];
+    let size = measure(s, types, &mut heads, &mut nums, &mut names, end);
+    if out.len() < size.bytes {
+        return Rewritten::Room(size.bytes);
+    }
+    let n = size.bytes;
+    let saves = size.saves as usize;
+    put_record(s, types, &mut heads, &mut nums, &mut names, out, end, size);
+    Rewritten::Written(n, saves)
+}
+
+// Of an accepted record: the types of its names, then the rest.
+pub fn rewrite_accepted(s: &[u8], out: &mut [u8]) -> Rewritten
+    requires { ⌜ checked (now s) ≡ Accepted ⌝ }
+    ensures { λ r. ⌜
+        (r ≡ rewrite (now (s .entry)) (now (out .entry))) ×
+        (now (out .exit) ≡ rewrite-leaves (now (s .entry)) (now (out .entry))) ⌝ }
+{
+    let mut types = [0u8; 256];
+    let n = fields::be16(s, 6);
+    let end = typing::fill_types(s, &mut types, n, 8);
+    let count = n as usize;
+    rewrite_typed(s, &types[..count], end, out)
+}
+
+// The rewriting of a record, written whole or not at all: its bytes and saves, check's refusal, or the bytes that the output is too
+// short for.
+pub fn rewrite(input: &[u8], output: &mut [u8]) -> Rewritten
+    ensures { λ r. ⌜
+        (r ≡ rewrite (now (input .entry)) (now (output .entry))) ×
+        (now (output .exit) ≡ rewrite-leaves (now (input .entry)) (now (output .entry))) ⌝ }
+{
+    match checker::check(input) {
+        Checked::Accepted => rewrite_accepted(input, output),
+        Checked::Refused(k, o) => Rewritten::Refused(k, o),
+    }
+}
