@@ -54,7 +54,7 @@ pub fn put_word(out: &mut [u8], at: usize, w: usize, x: u64)
 
 // n bytes of src, or as many as there are; the place behind them.
 pub fn copy_bytes(src: &[u8], from: usize, n: usize, out: &mut [u8], at: usize) -> usize
-    requires { ⌜ (from < 4294967296) × ((n < 4294967296) × (at < 4294967296)) ⌝ }
+    requires { ⌜ (from < 5000000000) × ((n < 4294967296) × (at < 4294967296)) ⌝ }
     ensures { λ r. ⌜ Wrote (now (out .entry)) (now (out .exit)) at r (take n (drop from (now (src .entry)))) × (r ≤ at + n) ⌝ }
 {
     let mut p = from;
@@ -88,7 +88,7 @@ pub fn put_digits(out: &mut [u8], at: usize, k: u64) -> usize
 
 // The text of the name made with K = k of the n bytes of src: `_`, they, `_lvn` and the digits of k.
 fn put_made_text(out: &mut [u8], at: usize, src: &[u8], from: usize, n: usize, k: u64) -> usize
-    requires { ⌜ (at < 4294967000) × ((from < 4294967296) × ((n ≤ 200) × (k < 16384))) ⌝ }
+    requires { ⌜ (at < 4294967000) × ((from < 5000000000) × ((n ≤ 200) × (k < 16384))) ⌝ }
     ensures { λ r. ⌜ Wrote (now (out .entry)) (now (out .exit)) at r (made-text (take n (drop from (now (src .entry)))) k) × (r ≤ at + 215) ⌝ }
 {
     put_u8(out, at, b'_');
@@ -107,7 +107,7 @@ pub fn put_made(
     n: usize,
     k: u64,
 ) -> usize
-    requires { ⌜ (at < 4294966000) × ((from < 4294967296) × ((n ≤ 200) × (k < 16384))) ⌝ }
+    requires { ⌜ (at < 4294966000) × ((from < 5000000000) × ((n ≤ 200) × (k < 16384))) ⌝ }
     ensures { λ r.
         ⌜ Wrote (now (out .entry)) (now (out .exit)) at r
         (name-bytes (record { type = ty; text = made-text (take n (drop from (now (src .entry)))) k })) × (r ≤ at + 217) ⌝ }

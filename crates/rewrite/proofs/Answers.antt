@@ -25,6 +25,8 @@ use Rattle.numbering.specs.Rewrite.{rewritten-bytes, rewrite-result, rewrite-ou
 use Rattle.emit.specs.Put.{put}
 use Rattle.emit.proofs.Put.{put-first}
 use Rattle.typing.specs.Passes.{types-from}
+use Rattle.tables.specs.Named.{places-from, NamesAt}
+use Rattle.tables.proofs.Laws.{places-hold}
 use Rattle.blocks.proofs.Whole.{record-again}
 use Rattle.rewrite.specs.Parts.{record-in, rewriting-in, Reads, types-in}
 use Rattle.rewrite.proofs.Known.{few-names}
@@ -42,6 +44,12 @@ types-first s table n e h f =
     (λ i. take (sym many i) ((f ∙ sets-eq ts (replicate 256 0) 0 room) i)) ∙
     take-append-seam ts (drop (0 + length ts) (replicate 256 0)) ∙
     ap (λ (k : ℕ). map (λ (x : Name). x .type) (items (name-from s) (name-end s) 8 k)) e
+
+pub placed-first :
+    (s table : List ℕ) (n : ℕ) → n ≡ names-count s → n ≤ 256 → table ≡ sets (replicate 256 0) 0 (places-from s 8 n) →
+    NamesAt s table (names-count s)
+placed-first s table n e h f x j =
+    places-hold s (replicate 256 0) table n (omega (arith, length-replicate {A = ℕ} 256 0, h)) f x (omega (arith, e, j))
 
 -- ---- an accepted record
 record Got (s : List ℕ) : Type 0 where

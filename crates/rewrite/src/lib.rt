@@ -10,9 +10,10 @@ ghost use lib.ListN.{length};
 ghost use Rattle.record.specs.Reader.{got};
 ghost use Rattle.record.specs.Write.{be, join, bytes};
 ghost use Rattle.record.specs.Answer.{checked};
-ghost use Rattle.record.specs.Decode.{record-from};
+ghost use Rattle.record.specs.Decode.{names-count, record-from};
 ghost use Rattle.record.specs.declared.Checked.the-variants.{Accepted};
 ghost use Rattle.numbering.specs.Rewrite.{rewrite-result, rewrite-output, rewrite, rewrite-leaves};
+ghost use Rattle.tables.specs.Named.{NamesAt};
 ghost use Rattle.emit.specs.Put.{put, Wrote};
 ghost use Rattle.rewrite.specs.Parts.{rewriting-in, front-parts, blocks-bytes, Reads, types-in, Noted};
 
@@ -46,8 +47,17 @@ pub fn put_blocks(
 }
 
 // All that stands before the blocks: L, version, A and N, the names, B; the place behind it. rest: L; k: how many names are made.
-pub fn put_front(s: &[u8], names: &[u16], out: &mut [u8], end: usize, k: u16, rest: u32) -> usize
-    requires { ⌜ Reads (now s) end × Noted (now s) (now names) k ⌝ }
+pub fn put_front(
+    s: &[u8],
+    places: &[u32],
+    names: &[u16],
+    out: &mut [u8],
+    end: usize,
+    k: u16,
+    rest: u32,
+) -> usize
+    requires { ⌜
+        Reads (now s) end × (Noted (now s) (now names) k × NamesAt (now s) (now places) (names-count (now s))) ⌝ }
     ensures { λ r. ⌜
         Wrote (now (out .entry)) (now (out .exit)) 0 r (join (be 4 rest ∷ front-parts (rewriting-in (now (s .entry))))) ×
         (r ≤ 4000000) ⌝ }
@@ -59,7 +69,7 @@ pub fn put_front(s: &[u8], names: &[u16], out: &mut [u8], end: usize, k: u16, re
     emit::put_u32(out, 0, rest);
     tables::put_head(out, version, args, n + k);
     let p = tables::copy_names(s, out, end);
-    let q = tables::put_made_names(out, p, s, names, k as usize);
+    let q = tables::put_made_names(out, p, s, places, names, k as usize);
     emit::put_u16(out, q, count);
     q + 2
 }
@@ -74,21 +84,22 @@ pub struct Size {
 pub fn measure(
     s: &[u8],
     types: &[u8],
+    places: &[u32],
     heads: &mut [u64],
     nums: &mut [u64],
     names: &mut [u16],
     end: usize,
 ) -> Size
     requires { ⌜
-        Reads (now s) end × ((now types ≡ types-in (now s)) ×
-        ((512 ≤ length (now heads)) × ((512 ≤ length (now nums)) × (16384 ≤ length (now names))))) ⌝ }
+        Reads (now s) end × ((now types ≡ types-in (now s)) × (NamesAt (now s) (now places) (names-count (now s)) ×
+        ((512 ≤ length (now heads)) × ((512 ≤ length (now nums)) × (16384 ≤ length (now names)))))) ⌝ }
     ensures { λ r. ⌜
         (r .bytes ≡ length (bytes (rewriting-in (now (s .entry))))) ×
         (Noted (now (s .entry)) (now (names .exit)) (r .saves) × (r .bytes ≤ 6000000)) ⌝ }
 {
     let mut none = [0u8; 0];
     let a = put_blocks(s, types, heads, nums, names, &mut none, end, 0);
-    let at = put_front(s, names, &mut none, end, a.k, 0);
+    let at = put_front(s, places, names, &mut none, end, a.k, 0);
     Size {
         bytes: at + a.q,
         saves: a.k,
@@ -99,6 +110,7 @@ pub fn measure(
 pub fn put_record(
     s: &[u8],
     types: &[u8],
+    places: &[u32],
     heads: &mut [u64],
     nums: &mut [u64],
     names: &mut [u16],
@@ -107,19 +119,34 @@ pub fn put_record(
     size: Size,
 )
     requires { ⌜
-        Reads (now s) end × ((now types ≡ types-in (now s)) ×
+        Reads (now s) end × ((now types ≡ types-in (now s)) × (NamesAt (now s) (now places) (names-count (now s)) ×
         ((512 ≤ length (now heads)) × ((512 ≤ length (now nums)) × ((16384 ≤ length (now names)) ×
         (Noted (now s) (now names) (size .saves) ×
-        ((size .bytes ≡ length (bytes (rewriting-in (now s)))) × (size .bytes ≤ 6000000))))))) ⌝ }
+        ((size .bytes ≡ length (bytes (rewriting-in (now s)))) × (size .bytes ≤ 6000000)))))))) ⌝ }
     ensures { λ _. ⌜ now (out .exit) ≡ put (now (out .entry)) 0 (bytes (rewriting-in (now (s .entry)))) ⌝ }
 {
-    let at = put_front(s, names, out, end, size.saves, (size.bytes - 4) as u32);
+    let at = put_front(
+        s,
+        places,
+        names,
+        out,
+        end,
+        size.saves,
+        (size.bytes - 4) as u32,
+    );
     put_blocks(s, types, heads, nums, names, out, end, at);
 }
 
-// Of an accepted record, whose names have these types and end there.
-pub fn rewrite_typed(s: &[u8], types: &[u8], end: usize, out: &mut [u8]) -> Rewritten
-    requires { ⌜ Reads (now s) end × (now types ≡ types-in (now s)) ⌝ }
+// Of an accepted record, whose names have these types and places and end there.
+pub fn rewrite_typed(
+    s: &[u8],
+    types: &[u8],
+    places: &[u32],
+    end: usize,
+    out: &mut [u8],
+) -> Rewritten
+    requires { ⌜
+        Reads (now s) end × ((now types ≡ types-in (now s)) × NamesAt (now s) (now places) (names-count (now s))) ⌝ }
     ensures { λ r. ⌜
         (r ≡ rewrite-result (length (now (out .entry))) (got (record-from (now (s .entry))) 0)) ×
         (now (out .exit) ≡ rewrite-output (now (out .entry)) (got (record-from (now (s .entry))) 0)) ⌝ }
@@ -127,17 +154,27 @@ pub fn rewrite_typed(s: &[u8], types: &[u8], end: usize, out: &mut [u8]) -> Rewr
     let mut heads = [0u64; 512];
     let mut nums = [0u64; 512];
     let mut names = [0u16; 16384];
-    let size = measure(s, types, &mut heads, &mut nums, &mut names, end);
+    let size = measure(s, types, places, &mut heads, &mut nums, &mut names, end);
     if out.len() < size.bytes {
         return Rewritten::Room(size.bytes);
     }
     let n = size.bytes;
     let saves = size.saves as usize;
-    put_record(s, types, &mut heads, &mut nums, &mut names, out, end, size);
+    put_record(
+        s,
+        types,
+        places,
+        &mut heads,
+        &mut nums,
+        &mut names,
+        out,
+        end,
+        size,
+    );
     Rewritten::Written(n, saves)
 }
 
-// Of an accepted record: the types of its names, then the rest.
+// Of an accepted record: the types and places of its names, then the rest.
 pub fn rewrite_accepted(s: &[u8], out: &mut [u8]) -> Rewritten
     requires { ⌜ checked (now s) ≡ Accepted ⌝ }
     ensures { λ r. ⌜
@@ -147,8 +184,10 @@ pub fn rewrite_accepted(s: &[u8], out: &mut [u8]) -> Rewritten
     let mut types = [0u8; 256];
     let n = fields::be16(s, 6);
     let end = typing::fill_types(s, &mut types, n, 8);
+    let mut places = [0u32; 256];
+    tables::fill_places(s, &mut places, n);
     let count = n as usize;
-    rewrite_typed(s, &types[..count], end, out)
+    rewrite_typed(s, &types[..count], &places, end, out)
 }
 
 // The rewriting of a record, written whole or not at all: its bytes and saves, check's refusal, or the bytes that the output is too

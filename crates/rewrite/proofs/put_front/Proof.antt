@@ -7,22 +7,22 @@ use Rattle.rewrite.proofs.put_front.Tie as tie
 add-put-head : tie.Need-add-put-head
 add-put-head c =
     let n = c .before .before .before .before .before .before in
-    let p = n .before .before .before .before .before .before .pre in
-    omega (arith, n .be16 .ensures .0, few-original (p .0), few-made (p .0) (p .1))
+    let p = n .before .before .before .before .before .before .before .pre in
+    omega (arith, n .be16 .ensures .0, few-original (p .0), few-made (p .0) (p .1 .0))
 
 copy-names-requires : tie.Need-copy-names-requires
 copy-names-requires c κs =
     let head = c .before .before .before in
-    let p = head .before .before .before .before .before .before .before .before .before .before .before .before .before .pre in
+    let p = head .before .before .before .before .before .before .before .before .before .before .before .before .before .before .pre in
     (names-on (p .0), omega (arith, p .0 .near))
 
 put-made-names-requires : tie.Need-put-made-names-requires
 put-made-names-requires c κs =
     let copied = c .before .before .before in
     let head = copied .before .before .before .before in
-    let p = head .before .before .before .before .before .before .before .before .before .before .before .before .before .pre in (
+    let p = head .before .before .before .before .before .before .before .before .before .before .before .before .before .before .pre in (
       omega (arith, p .0 .near, copied .copy-names .ensures .1),
-      (few-made (p .0) (p .1), (p .1 .room, (made-named (p .0) (p .1), made-short (p .0) (p .1)))),
+      (few-made (p .0) (p .1 .0), (p .1 .0 .room, (made-named (p .0) (p .1 .0), (made-short (p .0) (p .1 .0), p .1 .1)))),
     )
 
 put-u16-requires : tie.Need-put-u16-requires
@@ -30,16 +30,16 @@ put-u16-requires c κs =
     let made = c .before .before .before in
     let copied = made .before .before .before .before in
     let head = copied .before .before .before .before in
-    let p = head .before .before .before .before .before .before .before .before .before .before .before .before .before .pre in
-    omega (arith, p .0 .near, copied .copy-names .ensures .1, few-made (p .0) (p .1), made .put-made-names .ensures .1)
+    let p = head .before .before .before .before .before .before .before .before .before .before .before .before .before .before .pre in
+    omega (arith, p .0 .near, copied .copy-names .ensures .1, few-made (p .0) (p .1 .0), made .put-made-names .ensures .1)
 
 add-result : tie.Need-add-result
 add-result c =
     let made = c .before .before .before .before .before .before in
     let copied = made .before .before .before .before in
     let head = copied .before .before .before .before in
-    let p = head .before .before .before .before .before .before .before .before .before .before .before .before .before .pre in
-    omega (arith, p .0 .near, copied .copy-names .ensures .1, few-made (p .0) (p .1), made .put-made-names .ensures .1)
+    let p = head .before .before .before .before .before .before .before .before .before .before .before .before .before .before .pre in
+    omega (arith, p .0 .near, copied .copy-names .ensures .1, few-made (p .0) (p .1 .0), made .put-made-names .ensures .1)
 
 returns : tie.Need-returns
 returns c =
@@ -52,11 +52,11 @@ returns c =
     let names = blocks .before in
     let args = names .before in
     let version = args .before in
-    let p = version .before .before .before .before .pre in (
-      front-put (p .0) (p .1) _ _ _ _ _ (first .put-u32 .ensures) (head .put-head .ensures) (copied .copy-names .ensures .0)
+    let p = version .before .before .before .before .before .pre in (
+      front-put (p .0) (p .1 .0) _ _ _ _ _ (first .put-u32 .ensures) (head .put-head .ensures) (copied .copy-names .ensures .0)
           (made .put-made-names .ensures .0) (last .put-u16 .ensures) (version .byte-or .ensures .0) (args .byte-or2 .ensures .0)
           (omega (arith, names .be16 .ensures .0)) (blocks .be162 .ensures .0),
-      omega (arith, p .0 .near, copied .copy-names .ensures .1, few-made (p .0) (p .1), made .put-made-names .ensures .1),
+      omega (arith, p .0 .near, copied .copy-names .ensures .1, few-made (p .0) (p .1 .0), made .put-made-names .ensures .1),
     )
 
 pub put-front-spec : {M : Type 1} → statement M

@@ -9,14 +9,14 @@ use Rattle.tables.proofs.put_made_names.Statement.{statement}
 use Rattle.tables.proofs.put_made_names.Tie as tie
 
 abbrev Inv-loop : tie.InvT-loop
-Inv-loop out₀ at s made count p₀ i₀ left₀ out p i left =
+Inv-loop out₀ at s places made count p₀ i₀ left₀ out p i left =
     (i + left ≡ count) ×
     ((p + 217 * left ≤ at + 217 * count) ×
     ((length out ≡ length out₀) ×
     Rest out p (names-left s made i left) out₀ at (names-left s made 0 count)))
 
 abbrev μ-loop : tie.MeasureT-loop
-μ-loop out₀ at s made count p₀ i₀ left₀ out p i left = left
+μ-loop out₀ at s places made count p₀ i₀ left₀ out p i left = left
 
 loop-holds : tie.Need-loop-holds Inv-loop μ-loop
 loop-holds c = (omega arith, (omega arith, (refl, rest-all)))
@@ -24,25 +24,26 @@ loop-holds c = (omega arith, (omega arith, (refl, rest-all)))
 shared-slice-read-put-made-name : tie.Need-shared-slice-read-put-made-name Inv-loop μ-loop
 shared-slice-read-put-made-name c =
     let w = c .before .before .before in
-    let a = w .before .before .before .before in
+    let a = w .before .before .before .before .before in
     let h = c .before .before .loop-test .taken in
     omega (arith, h, w .loop .inv .0, a .pre .1 .1 .0)
 
 put-made-name-requires : tie.Need-put-made-name-requires Inv-loop μ-loop
 put-made-name-requires c κs =
     let w = c .before .before .before in
-    let a = w .before .before .before .before in
+    let a = w .before .before .before .before .before in
     let h = c .before .before .loop-test .taken in
     let inv = w .loop .inv in
     let i : w .loop .i < a .args .count = omega (arith, h, inv .0) in
     let n = a .pre .1 .1 .1 .0 (w .loop .i) i in
-    (omega (arith, h, inv .1 .0, a .pre .0, a .pre .1 .0), (n, (a .pre .1 .1 .1 .1 _ n, omega (arith, i, a .pre .1 .0))))
+    let rest = a .pre .1 .1 .1 .1 in
+    (omega (arith, h, inv .1 .0, a .pre .0, a .pre .1 .0), (n, (rest .0 _ n, (omega (arith, i, a .pre .1 .0), rest .1))))
 
 loop-again : tie.Need-loop-again Inv-loop μ-loop
 loop-again c =
     let v = c .before .before in
     let w = v .before .before .before .before in
-    let a = w .before .before .before .before in
+    let a = w .before .before .before .before .before in
     let h = v .before .before .before .loop-test .taken in
     let inv = w .loop .inv in
     let made = a .args .made .now in
@@ -63,7 +64,7 @@ loop-again c =
 returns : tie.Need-returns Inv-loop μ-loop
 returns c =
     let w = c .before in
-    let a = w .before .before .before .before .args in (
+    let a = w .before .before .before .before .before .args in (
       rest-none _ (names-none (a .s .now) (a .made .now) (w .loop .i) (w .loop .left) (c .loop-test .left)) (w .loop .inv .1 .1 .1),
       omega (arith, w .loop .inv .1 .0),
     )
