@@ -74,8 +74,8 @@ pub fn copy_bytes(src: &[u8], from: usize, n: usize, out: &mut [u8], at: usize) 
 
 // The decimal digits of k; the place behind them.
 pub fn put_digits(out: &mut [u8], at: usize, k: u64) -> usize
-    requires { ⌜ (at < 4294967296) × (k < 4294967296) ⌝ }
-    ensures { λ r. ⌜ Wrote (now (out .entry)) (now (out .exit)) at r (digits k) × (r ≤ at + 10) ⌝ }
+    requires { ⌜ at < 4294967296 ⌝ }
+    ensures { λ r. ⌜ Wrote (now (out .entry)) (now (out .exit)) at r (digits k) × (r ≤ at + 20) ⌝ }
 {
     if k < 10 {
         put_u8(out, at, 48 + k as u8);

@@ -47,7 +47,7 @@ put-digits-returns-2 t c =
     let k = w .before .before .before .before .args .k in
     let d : Wrote _ _ _ _ (digits k) =
     more-wrote k (w .before .before .if1 .left) (w .put-digits .ensures .0) (c .before .before .put-u82 .ensures) in
-    let few : length (digits k) ≤ 10 = digits-few k 9 (omega arith) in
+    let few : length (digits k) ≤ 20 = digits-few k 19 (omega arith) in
     (d, omega (arith, d .end))
 
 pub +put-digits-spec : {M : Type 1} → statement M

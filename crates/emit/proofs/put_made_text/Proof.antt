@@ -1,5 +1,9 @@
-use lib.ListN.{take, drop}
+use Prim.Native.Nat.{_≤_}
+use native.Mathlib.Omega.{arith}
+use lib.ListN.{length, take, drop}
 use borrow.Author.Needs.{needs}
+use Rattle.numbering.specs.Made.{digits}
+use Rattle.numbering.proofs.Digits.{digits-few}
 use Rattle.emit.proofs.Made.{text-wrote}
 use Rattle.emit.proofs.put_made_text.Statement.{statement}
 use Rattle.emit.proofs.put_made_text.Tie as tie
@@ -10,10 +14,11 @@ returns c =
     let u = v .before .before .before .before in
     let w = u .before .before .before .before in
     let a = w .before .before .before .before .args in
-    let t = take (a .n) (drop (a .from) (a .src .now)) in (
-      text-wrote t (a .k) (w .put-u8 .ensures) (u .copy-bytes .ensures .0) (v .put-u32 .ensures)
-          (c .before .before .put-digits .ensures .0),
-      search needs,
+    let t = take (a .n) (drop (a .from) (a .src .now)) in
+    let d = c .before .before .put-digits .ensures .0 in
+    let few : length (digits (a .k)) ≤ 10 = digits-few (a .k) 9 (omega arith) in (
+      text-wrote t (a .k) (w .put-u8 .ensures) (u .copy-bytes .ensures .0) (v .put-u32 .ensures) d,
+      omega (arith, d .end, u .copy-bytes .ensures .1),
     )
 
 pub put-made-text-spec : {M : Type 1} → statement M

@@ -1,0 +1,38 @@
+// What the program prints, put into a lent buffer: the rewriting's bytes, or the line of a refusal.
+use numbering::Rewritten;
+ghost use mathlib.Core.Path.{_≡_};
+ghost use mathlib.Core.List.{[], _∷_};
+ghost use Prim.Native.Nat.{_≤_};
+ghost use lib.ListN.{length, take};
+ghost use Rattle.numbering.specs.Program.{refused-line, output-with};
+ghost use Rattle.emit.specs.Put.{Wrote};
+
+// The line of a refusal, from the first byte on; how long it is.
+pub fn put_refusal(out: &mut [u8], number: u8, value: usize) -> usize
+    ensures { λ r. ⌜
+        Wrote (now (out .entry)) (now (out .exit)) 0 r (refused-line (record { number = number; values = value ∷ [] })) × (r ≤ 36) ⌝ }
+{
+    let p = emit::copy_bytes(b"refused ", 0, 8, out, 0);
+    let q = emit::put_digits(out, p, number as u64);
+    let from = emit::copy_bytes(b" at ", 0, 4, out, q);
+    let end = emit::put_digits(out, from, value as u64);
+    emit::put_u8(out, end, b'\n');
+    end + 1
+}
+
+// All that the program does between reading and writing: what it prints stands in the buffer's first bytes; how many they are.
+// A buffer of 36 bytes has room for every line; what is in it at the start is not printed.
+pub fn output_of(input: &[u8], buffer: &mut [u8]) -> usize
+    ensures { λ r. ⌜ (36 ≤ length (now (buffer .entry)) →
+        (r ≤ length (now (buffer .exit))) ×
+        (take r (now (buffer .exit)) ≡ output-with (now (buffer .entry)) (now (input .entry)))) ⌝ }
+{
+    if input.len() > 8192 {
+        return put_refusal(buffer, 10, 8192);
+    }
+    match rewrite::rewrite(input, buffer) {
+        Rewritten::Written(n, _) => n,
+        Rewritten::Refused(k, o) => put_refusal(buffer, checker::number_of(k), o),
+        Rewritten::Room(n) => put_refusal(buffer, 9, n),
+    }
+}
