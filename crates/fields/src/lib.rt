@@ -1,4 +1,4 @@
-// Fields of a record: their numbers, the tests of them, and the fields that more than one part of a record has.
+// Fields of a record: the reader, their numbers, the tests of them, and the fields that more than one part of a record has.
 use record::Next;
 use record::Refusal;
 use record::Test;
@@ -16,7 +16,7 @@ pub enum Num {
     No(Refusal, usize),
 }
 
-// ---- numbers, the first byte the greatest
+// ---- numbers of bytes that are there, the first byte the greatest
 // A byte as a number.
 pub fn wide(x: u8) -> u64
     ensures { λ r. ⌜ (r ≡ x) × (r < 256) ⌝ }
@@ -24,35 +24,28 @@ pub fn wide(x: u8) -> u64
     x as u64
 }
 
-// The byte at a place, 0 past the end.
-pub fn byte_or(s: &[u8], at: usize) -> u64
-    ensures { λ r. ⌜ (r ≡ getD (now (s .entry)) at 0) × (r < 256) ⌝ }
-{
-    if at < s.len() { wide(s[at]) } else { 0 }
-}
-
-// The number of two bytes; bytes past the end count as 0. The last of them has a place.
-pub fn be16(s: &[u8], at: usize) -> u64
-    requires { ⌜ at + 1 < 18446744073709551616 ⌝ }
+// The number of two bytes.
+fn two_of(s: &[u8], at: usize) -> u64
+    requires { ⌜ at + 1 < length (now s) ⌝ }
     ensures { λ r. ⌜ (r ≡ num-at (now (s .entry)) at 2) × (r < 65536) ⌝ }
 {
-    byte_or(s, at) * 256 + byte_or(s, at + 1)
+    wide(s[at]) * 256 + wide(s[at + 1])
 }
 
 // The number of four bytes, by halves.
-pub fn be32(s: &[u8], at: usize) -> u64
-    requires { ⌜ at + 3 < 18446744073709551616 ⌝ }
+fn four_of(s: &[u8], at: usize) -> u64
+    requires { ⌜ at + 3 < length (now s) ⌝ }
     ensures { λ r. ⌜ (r ≡ num-at (now (s .entry)) at 4) × (r < 4294967296) ⌝ }
 {
-    be16(s, at) * 65536 + be16(s, at + 2)
+    two_of(s, at) * 65536 + two_of(s, at + 2)
 }
 
 // The number of eight bytes, by halves.
-pub fn be64(s: &[u8], at: usize) -> u64
-    requires { ⌜ at + 7 < 18446744073709551616 ⌝ }
+fn eight_of(s: &[u8], at: usize) -> u64
+    requires { ⌜ at + 7 < length (now s) ⌝ }
     ensures { λ r. ⌜ r ≡ num-at (now (s .entry)) at 8 ⌝ }
 {
-    be32(s, at) * 4294967296 + be32(s, at + 4)
+    four_of(s, at) * 4294967296 + four_of(s, at + 4)
 }
 
 // How many bytes stand from a place to the end.
@@ -62,45 +55,118 @@ pub fn left(s: &[u8], at: usize) -> usize
     if at < s.len() { s.len() - at } else { 0 }
 }
 
-// ---- fields whose number may be any: refused where they run past the end
-// A field of one byte.
-pub fn one_at(s: &[u8], at: usize) -> Num
+// ---- a field of a slice: its number and the next place, or past the end
+// Of one byte.
+fn one_in(s: &[u8], at: usize) -> Num
     ensures { λ r. ⌜ res r ≡ field 1 any (now (s .entry)) at ⌝ }
 {
     if left(s, at) < 1 {
         return Num::No(Refusal::Length, at);
     }
-    Num::Is(byte_or(s, at), at + 1)
+    Num::Is(wide(s[at]), at + 1)
+}
+
+// Of two bytes.
+fn two_in(s: &[u8], at: usize) -> Num
+    ensures { λ r. ⌜ res r ≡ field 2 any (now (s .entry)) at ⌝ }
+{
+    if left(s, at) < 2 {
+        return Num::No(Refusal::Length, at);
+    }
+    Num::Is(two_of(s, at), at + 2)
+}
+
+// Of four bytes.
+fn four_in(s: &[u8], at: usize) -> Num
+    ensures { λ r. ⌜ res r ≡ field 4 any (now (s .entry)) at ⌝ }
+{
+    if left(s, at) < 4 {
+        return Num::No(Refusal::Length, at);
+    }
+    Num::Is(four_of(s, at), at + 4)
+}
+
+// Of eight bytes.
+fn eight_in(s: &[u8], at: usize) -> Num
+    ensures { λ r. ⌜ res r ≡ field 8 any (now (s .entry)) at ⌝ }
+{
+    if left(s, at) < 8 {
+        return Num::No(Refusal::Length, at);
+    }
+    Num::Is(eight_of(s, at), at + 8)
+}
+
+// ---- the record reader
+// A lent record and the place at which it is read. Its functions take it apart; every field is read through them.
+pub struct Reader<'a> {
+    pub src: &'a [u8],
+    pub at: usize,
+}
+
+impl<'a> Reader<'a> {
+    // A reader of src at a place.
+    pub fn new(src: &'a [u8], at: usize) -> Reader<'a>
+        ensures { λ r. ⌜ (r .src ≡ src .entry) × (r .at ≡ at) ⌝ }
+    {
+        Reader { src, at }
+    }
+
+    // The field of one byte that stands here.
+    pub fn one(self) -> Num
+        ensures { λ r. ⌜ res r ≡ field 1 any (now (self .entry .src)) (self .entry .at) ⌝ }
+    {
+        one_in(self.src, self.at)
+    }
+
+    // The field of two bytes.
+    pub fn two(self) -> Num
+        ensures { λ r. ⌜ res r ≡ field 2 any (now (self .entry .src)) (self .entry .at) ⌝ }
+    {
+        two_in(self.src, self.at)
+    }
+
+    // The field of four bytes.
+    pub fn four(self) -> Num
+        ensures { λ r. ⌜ res r ≡ field 4 any (now (self .entry .src)) (self .entry .at) ⌝ }
+    {
+        four_in(self.src, self.at)
+    }
+
+    // The field of eight bytes.
+    pub fn eight(self) -> Num
+        ensures { λ r. ⌜ res r ≡ field 8 any (now (self .entry .src)) (self .entry .at) ⌝ }
+    {
+        eight_in(self.src, self.at)
+    }
+}
+
+// ---- fields whose number may be any: refused where they run past the end
+// A field of one byte.
+pub fn one_at(s: &[u8], at: usize) -> Num
+    ensures { λ r. ⌜ res r ≡ field 1 any (now (s .entry)) at ⌝ }
+{
+    Reader::new(s, at).one()
 }
 
 // A field of two bytes.
 pub fn two_at(s: &[u8], at: usize) -> Num
     ensures { λ r. ⌜ res r ≡ field 2 any (now (s .entry)) at ⌝ }
 {
-    if left(s, at) < 2 {
-        return Num::No(Refusal::Length, at);
-    }
-    Num::Is(be16(s, at), at + 2)
+    Reader::new(s, at).two()
 }
 
 // A field of four bytes.
 pub fn four_at(s: &[u8], at: usize) -> Num
     ensures { λ r. ⌜ res r ≡ field 4 any (now (s .entry)) at ⌝ }
 {
-    if left(s, at) < 4 {
-        return Num::No(Refusal::Length, at);
-    }
-    Num::Is(be32(s, at), at + 4)
+    Reader::new(s, at).four()
 }
 
 // A field of eight bytes.
 pub fn eight_at(s: &[u8], at: usize) -> Num
     ensures { λ r. ⌜ res r ≡ field 8 any (now (s .entry)) at ⌝ }
 {
-    if left(s, at) < 8 {
-        return Num::No(Refusal::Length, at);
-    }
-    Num::Is(be64(s, at), at + 8)
+    Reader::new(s, at).eight()
 }
 
 // A field of w bytes whose number is not looked at.
@@ -111,6 +177,50 @@ pub fn skip_at(s: &[u8], at: usize, w: usize) -> Next
         return Next::Refused(Refusal::Length, at);
     }
     Next::At(at + w)
+}
+
+// ---- numbers of fields whose bytes past the end count as 0
+// The byte at a place, 0 past the end.
+pub fn byte_or(s: &[u8], at: usize) -> u64
+    ensures { λ r. ⌜ (r ≡ getD (now (s .entry)) at 0) × (r < 256) ⌝ }
+{
+    match one_at(s, at) {
+        Num::Is(x, _) => x,
+        Num::No(_, _) => 0,
+    }
+}
+
+// The number of two bytes; bytes past the end count as 0. The last of them has a place.
+pub fn be16(s: &[u8], at: usize) -> u64
+    requires { ⌜ at + 1 < 18446744073709551616 ⌝ }
+    ensures { λ r. ⌜ (r ≡ num-at (now (s .entry)) at 2) × (r < 65536) ⌝ }
+{
+    match two_at(s, at) {
+        Num::Is(x, _) => x,
+        Num::No(_, _) => byte_or(s, at) * 256 + byte_or(s, at + 1),
+    }
+}
+
+// The number of four bytes, by halves where it runs past the end.
+pub fn be32(s: &[u8], at: usize) -> u64
+    requires { ⌜ at + 3 < 18446744073709551616 ⌝ }
+    ensures { λ r. ⌜ (r ≡ num-at (now (s .entry)) at 4) × (r < 4294967296) ⌝ }
+{
+    match four_at(s, at) {
+        Num::Is(x, _) => x,
+        Num::No(_, _) => be16(s, at) * 65536 + be16(s, at + 2),
+    }
+}
+
+// The number of eight bytes, by halves where it runs past the end.
+pub fn be64(s: &[u8], at: usize) -> u64
+    requires { ⌜ at + 7 < 18446744073709551616 ⌝ }
+    ensures { λ r. ⌜ r ≡ num-at (now (s .entry)) at 8 ⌝ }
+{
+    match eight_at(s, at) {
+        Num::Is(x, _) => x,
+        Num::No(_, _) => be32(s, at) * 4294967296 + be32(s, at + 4),
+    }
 }
 
 // ---- tests of a number

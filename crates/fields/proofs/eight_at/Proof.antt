@@ -1,21 +1,17 @@
--- `fields::eight_at` meets its contract.
-use Prim.Native.Nat.{ℕ, _+_}
-use mathlib.Core.Path.{sym, ap, _∙_}
-use native.Mathlib.Omega.{arith}
-use borrow.Author.Needs.{needs}
-use Rattle.record.specs.Reader.{got}
-use Rattle.record.specs.Tests.{any}
-use Rattle.record.proofs.Following.{field-past, field-there}
+-- `fields::eight_at` meets its contract: it makes a `Reader` and reads by its function `eight`.
+use Rattle.fields.proofs.Promised.{reads}
+use Rattle.fields.proofs.Plain.{plain-spec}
+use Rattle.fields.proofs.Reader.new.Symbol as new
+use Rattle.fields.proofs.Reader.new.Met as new-known
+use Rattle.fields.proofs.Reader.eight.Symbol as callee
+use Rattle.fields.proofs.Reader.eight.Met as known
+use Rattle.fields.proofs.eight_at.Key.{name}
 use Rattle.fields.proofs.eight_at.Statement.{statement}
-use Rattle.fields.proofs.eight_at.Tie as tie
-
-returns : tie.Need-returns
-returns c = sym (field-past 8 any _ _ (omega arith))
-
-returns-2 : tie.Need-returns-2
-returns-2 c =
-    ap (λ (x : ℕ). got x (c .before .before .before .before .args .at + 8)) (c .be64 .ensures)
-    ∙ sym (field-there 8 _ _ (omega arith))
+use Rattle.fields.proofs.eight_at.Code as code
 
 pub eight-at-spec : {M : Type 1} → statement M
-eight-at-spec = tie.close (tie.spec (λ c κs. search needs) returns (λ c κs. search needs) (λ c. search needs) returns-2)
+unfolding code.routine
+eight-at-spec 𝓤 H 𝓜 𝓖 𝓡 =
+    plain-spec 𝓤 H 𝓜 𝓖 𝓡 (reads 8) code.env name new.name callee.name (code.unfolded 𝓤 H 𝓜 𝓡)
+    new.routine code.calls-fields·Reader·new (new-known.met 𝓤 H 𝓜 𝓖 𝓡)
+    callee.routine code.calls-fields·Reader·eight (known.met 𝓤 H 𝓜 𝓖 𝓡)
