@@ -1,0 +1,141 @@
+//! Local value numbering of Bril function records: safe functions over the
+//! static library of the crate `exports`. What each answers is proved there;
+//! `include/lvn.h` says it in words.
+
+use std::{error, fmt};
+
+/// A refusal's number and offset: 1 to 8 of check; 6 and 11, at offset 0, of
+/// name text.
+#[derive(Clone, Copy, Debug, PartialEq, Eq)]
+pub struct Refused {
+    pub number: u8,
+    pub offset: usize,
+}
+
+impl fmt::Display for Refused {
+    fn fmt(&self, f: &mut fmt::Formatter) -> fmt::Result {
+        write!(f, "refused {} at {}", self.number, self.offset)
+    }
+}
+
+impl error::Error for Refused {}
+
+/// What was written: bytes, and all saves.
+#[derive(Clone, Copy, Debug, PartialEq, Eq)]
+pub struct Written {
+    pub bytes: usize,
+    pub saves: usize,
+}
+
+/// Why nothing was written.
+#[derive(Clone, Copy, Debug, PartialEq, Eq)]
+pub enum Unwritten {
+    /// The record is refused.
+    Refused(Refused),
+    /// The output is shorter than this, the bytes of the rewriting.
+    Room(usize),
+}
+
+impl fmt::Display for Unwritten {
+    fn fmt(&self, f: &mut fmt::Formatter) -> fmt::Result {
+        match self {
+            Unwritten::Refused(refused) => refused.fmt(f),
+            Unwritten::Room(bytes) => write!(f, "the output needs {bytes} bytes"),
+        }
+    }
+}
+
+impl error::Error for Unwritten {}
+
+mod raw {
+    #[repr(C)]
+    #[derive(Default)]
+    pub struct Rewritten {
+        pub count: usize,
+        pub saves: usize,
+    }
+
+    #[repr(C)]
+    #[derive(Default)]
+    pub struct Named {
+        pub offset: usize,
+        pub in_rewriting: usize,
+        pub from: usize,
+        pub count: usize,
+    }
+
+    extern "C" {
+        pub fn lvn_check(input: *const u8, length: usize, offset: *mut usize) -> u8;
+
+        pub fn lvn_rewrite(
+            input: *const u8,
+            input_length: usize,
+            output: *mut u8,
+            output_length: usize,
+            answer: *mut Rewritten,
+        ) -> u8;
+
+        pub fn lvn_name_text(
+            input: *const u8,
+            input_length: usize,
+            rewriting: *const u8,
+            rewriting_length: usize,
+            index: usize,
+            answer: *mut Named,
+        ) -> u8;
+    }
+}
+
+/// Whether the bytes are the record of a function, or the first fault.
+pub fn check(input: &[u8]) -> Result<(), Refused> {
+    let mut offset = 0;
+    // SAFETY: the slice and the number are valid for the call, which asks nothing of their values.
+    let number = unsafe { raw::lvn_check(input.as_ptr(), input.len(), &mut offset) };
+    match number {
+        0 => Ok(()),
+        _ => Err(Refused { number, offset }),
+    }
+}
+
+/// Writes the rewriting of a record to the start of `output`. Otherwise
+/// `output` stays as it was; the bytes beyond stay as they were in any case.
+pub fn rewrite(input: &[u8], output: &mut [u8]) -> Result<Written, Unwritten> {
+    let mut answer = raw::Rewritten::default();
+    let (from, to) = (input.as_ptr(), output.as_mut_ptr());
+    // SAFETY: as for check; `output` is lent for writing, so it overlaps with nothing.
+    let number = unsafe { raw::lvn_rewrite(from, input.len(), to, output.len(), &mut answer) };
+    match number {
+        0 => Ok(Written { bytes: answer.count, saves: answer.saves }),
+        9 => Err(Unwritten::Room(answer.count)),
+        _ => Err(Unwritten::Refused(Refused { number, offset: answer.count })),
+    }
+}
+
+/// The rewriting of a record, and all saves.
+pub fn rewriting(input: &[u8]) -> Result<(Vec<u8>, usize), Refused> {
+    let mut output = vec![0; 2 * input.len()];
+    loop {
+        match rewrite(input, &mut output) {
+            Ok(written) => {
+                output.truncate(written.bytes);
+                return Ok((output, written.saves));
+            }
+            Err(Unwritten::Room(bytes)) => output.resize(bytes, 0),
+            Err(Unwritten::Refused(refused)) => return Err(refused),
+        }
+    }
+}
+
+/// The text of the name with an index, from the input or from its rewriting.
+pub fn name_text<'a>(input: &'a [u8], rewriting: &'a [u8], index: usize) -> Result<&'a [u8], Refused> {
+    let mut answer = raw::Named::default();
+    let (one, two) = (input.as_ptr(), rewriting.as_ptr());
+    // SAFETY: as for check.
+    let number =
+        unsafe { raw::lvn_name_text(one, input.len(), two, rewriting.len(), index, &mut answer) };
+    if number != 0 {
+        return Err(Refused { number, offset: answer.offset });
+    }
+    let record = if answer.in_rewriting == 0 { input } else { rewriting };
+    Ok(&record[answer.from..answer.from + answer.count])
+}

@@ -1,0 +1,97 @@
+//! The entries on the records of document 01 and on outputs of each size.
+
+use lvn::{check, name_text, rewrite, rewriting, Refused, Unwritten, Written};
+
+fn bytes(hex: &str) -> Vec<u8> {
+    let digits: Vec<u8> = hex.bytes().filter(|d| !d.is_ascii_whitespace()).collect();
+    let pair = |p: &[u8]| u8::from_str_radix(std::str::from_utf8(p).unwrap(), 16).unwrap();
+    digits.chunks(2).map(pair).collect()
+}
+
+/// C1 of document 01 and its rewriting.
+fn c1() -> (Vec<u8>, Vec<u8>) {
+    let input = "0000002B 01 02 0003 000161 000162 000178 0001 0002 0000
+        00000007 01 0002 02 0000 0001 00000008 01 0002 02 0001 0000";
+    let output = "0000003C 01 02 0004 000161 000162 000178 00075F785F6C766E30 0001 0003 0001
+        00000007 01 0002 02 0000 0001 00000008 0D 0003 01 0002 00000008 0D 0002 01 0003";
+    (bytes(input), bytes(output))
+}
+
+#[test]
+fn c1_is_accepted_and_rewritten() {
+    let (input, output) = c1();
+    assert_eq!(check(&input), Ok(()));
+    assert_eq!(rewriting(&input), Ok((output, 1)));
+}
+
+#[test]
+fn outputs_short_exact_and_long() {
+    let (input, output) = c1();
+    for size in 0..output.len() + 40 {
+        let mut out = vec![0xA5; size];
+        let answer = rewrite(&input, &mut out);
+        if size < output.len() {
+            assert_eq!(answer, Err(Unwritten::Room(output.len())));
+            assert!(out.iter().all(|b| *b == 0xA5));
+        } else {
+            assert_eq!(answer, Ok(Written { bytes: output.len(), saves: 1 }));
+            assert_eq!(out[..output.len()], output);
+            assert!(out[output.len()..].iter().all(|b| *b == 0xA5));
+        }
+    }
+}
+
+#[test]
+fn a_refusal_has_number_and_offset_and_writes_nothing() {
+    let (input, _) = c1();
+    for size in 0..input.len() {
+        let at_start = Refused { number: 1, offset: 0 };
+        assert_eq!(check(&input[..size]), Err(at_start));
+    }
+    let mut damaged = input.clone();
+    damaged[27] = 15; // the code of the first instruction
+    let unknown = Refused { number: 5, offset: 27 };
+    let mut out = [0xA5; 200];
+    assert_eq!(check(&damaged), Err(unknown));
+    assert_eq!(rewrite(&damaged, &mut out), Err(Unwritten::Refused(unknown)));
+    assert_eq!(rewriting(&damaged), Err(unknown));
+    assert!(out.iter().all(|b| *b == 0xA5));
+    assert_eq!(unknown.to_string(), "refused 5 at 27");
+}
+
+#[test]
+fn texts_of_original_and_made_names() {
+    let (input, output) = c1();
+    let texts: [&[u8]; 4] = [b"a", b"b", b"x", b"_x_lvn0"];
+    for (index, text) in texts.into_iter().enumerate() {
+        assert_eq!(name_text(&input, &output, index), Ok(text));
+    }
+    let refused = |number, offset| Err(Refused { number, offset });
+    assert_eq!(name_text(&input, &output, 4), refused(6, 0));
+    assert_eq!(name_text(&input, &output, usize::MAX), refused(6, 0));
+    assert_eq!(name_text(&input, &output[..7], 0), refused(11, 0));
+    assert_eq!(name_text(&input[..20], &output, 0), refused(1, 0));
+}
+
+#[test]
+fn smallest_inputs() {
+    assert_eq!(check(&[]), Err(Refused { number: 1, offset: 0 }));
+    assert_eq!(check(&[0; 4]), Err(Refused { number: 1, offset: 4 }));
+    let empty = bytes("00000006 01 00 0000 0000");
+    assert_eq!(rewriting(&empty), Ok((empty.clone(), 0)));
+    assert_eq!(rewrite(&empty, &mut []), Err(Unwritten::Room(10)));
+}
+
+#[test]
+fn several_threads_at_once() {
+    let (input, output) = c1();
+    std::thread::scope(|threads| {
+        for _ in 0..4 {
+            threads.spawn(|| {
+                for _ in 0..1000 {
+                    assert_eq!(rewriting(&input).unwrap().0, output);
+                }
+            });
+        }
+    });
+}

@@ -1,0 +1,69 @@
+/* Local value numbering of Bril function records: a static library, proved.
+ *
+ *     rt staticlib exports        writes target/staticlib/libexports.a
+ *
+ * Records, refusals and limits are those of document 01. Each function returns 0, or the number of its refusal:
+ *
+ *     1  fewer than four bytes, L not the rest, a field past the end, or bytes left over
+ *     2  version
+ *     3  a limit, a count, a type, saves that are not zero, a literal's kind or a literal that is not of its kind
+ *     4  a name's text is malformed, reserved or used before
+ *     5  unknown code
+ *     6  a name or block number that is not in the record
+ *     7  an instruction's types
+ *     8  jmp, br or ret before the last place of its block
+ *     9  rewrite: the output is too short
+ *    11  name text: the rewriting does not belong to the input
+ *
+ * Every input is answered: nothing is asked of the bytes. Of the pointers it is asked that each points to as many bytes, or numbers, as
+ * its length or type says, that none is null (not even with length 0), and that nothing which a call writes overlaps with anything else
+ * that is lent to it. A call keeps no pointer, uses about 50 KB of stack and no heap, and calls may run in several threads at once.
+ */
+#ifndef LVN_H
+#define LVN_H
+
+#include <stddef.h>
+#include <stdint.h>
+
+#ifdef __cplusplus
+extern "C" {
+#endif
+
+/* Whether the bytes are the record of a function: 0, or 1 to 8.
+ * offset: where the first fault is; 0 if there is none. For 7 it is the offset of the instruction. */
+uint8_t lvn_check(const uint8_t *input, size_t input_length, size_t *offset);
+
+/* What lvn_rewrite leaves.
+ * count: 0: the bytes written. 1 to 8: the offset of the first fault. 9: the bytes that the rewriting needs.
+ * saves: 0: all saves that were added. 1 to 9: 0. */
+typedef struct {
+    size_t count;
+    size_t saves;
+} lvn_rewritten;
+
+/* Writes the rewriting of a record to the start of output: 0, a refusal of lvn_check, or 9.
+ * A refusal leaves output as it was, and success leaves the bytes beyond the rewriting as they were. */
+uint8_t lvn_rewrite(const uint8_t *input, size_t input_length, uint8_t *output, size_t output_length, lvn_rewritten *answer);
+
+/* What lvn_name_text leaves.
+ * offset: of a refusal 1 to 8 of the input; else 0.
+ * in_rewriting: 0: the text stands in the input. 1: it stands in the rewriting.
+ * from, count: where it starts there, and how many bytes it has; they lie within that record. A refusal: all 0. */
+typedef struct {
+    size_t offset;
+    size_t in_rewriting;
+    size_t from;
+    size_t count;
+} lvn_named;
+
+/* The text of a name of a record or of its rewriting, by the name's index: 0, or a refusal of lvn_check on the input; 11 if the rewriting
+ * has fewer than 8 bytes, its L is not the rest, its version is not the input's, a name runs past its end or it has fewer names than the
+ * input; 6 if the index is not below the rewriting's count of names. Nothing else of the rewriting is tested. */
+uint8_t lvn_name_text(const uint8_t *input, size_t input_length, const uint8_t *rewriting, size_t rewriting_length, size_t index,
+                      lvn_named *answer);
+
+#ifdef __cplusplus
+}
+#endif
+
+#endif

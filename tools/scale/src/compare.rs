@@ -1,0 +1,176 @@
+//! The comparison at scale: small functions of every kind, random ones, and
+//! damaged copies, until a count or a time is reached.
+
+use crate::damage::damaged;
+use crate::function::{Encoded, Function, CODES};
+use crate::generate::Generator;
+use crate::one::{self, hex, Guarded, Same};
+use crate::small::Small;
+use std::time::{Duration, Instant};
+
+pub struct Options {
+    pub seed: u64,
+    pub count: Option<u64>,
+    pub seconds: u64,
+}
+
+/// The largest of each size that was compared.
+#[derive(Default)]
+struct Largest {
+    args: usize,
+    names: usize,
+    text: usize,
+    blocks: usize,
+    body: usize,
+    record: usize,
+    rewriting: usize,
+}
+
+#[derive(Default)]
+struct Tally {
+    small: u64,
+    all_small: bool,
+    random: u64,
+    /// Damaged copies that are accepted all the same.
+    still_accepted: u64,
+    divisions: u64,
+    refused: [u64; 9],
+    saves: u64,
+    codes: Vec<u64>,
+    largest: Largest,
+    differ: u64,
+}
+
+impl Tally {
+    fn accepted(&self) -> u64 {
+        self.small + self.random + self.still_accepted
+    }
+
+    fn sizes(&mut self, f: &Function, record: usize) {
+        let l = &mut self.largest;
+        l.args = l.args.max(f.args.into());
+        l.names = l.names.max(f.names.len());
+        l.text = l.text.max(f.names.iter().map(|n| n.1.len()).max().unwrap_or(0));
+        l.blocks = l.blocks.max(f.blocks.len());
+        l.body = l.body.max(f.blocks.iter().map(Vec::len).max().unwrap_or(0));
+        l.record = l.record.max(record);
+        for i in f.blocks.iter().flatten() {
+            self.codes[usize::from(i.code)] += 1;
+        }
+    }
+}
+
+struct Compare {
+    tally: Tally,
+    out: Guarded,
+    smallest: Option<(Vec<u8>, String)>,
+}
+
+impl Compare {
+    /// Compares one record; whether it is accepted and the same.
+    fn record(&mut self, bytes: &[u8]) -> bool {
+        match one::compare(bytes, &mut self.out) {
+            Ok(Same::Rewritten(length, saves)) => {
+                self.tally.saves += saves as u64;
+                self.tally.largest.rewriting = self.tally.largest.rewriting.max(length);
+                true
+            }
+            Ok(Same::Division) => {
+                self.tally.divisions += 1;
+                true
+            }
+            Ok(Same::Refused(number)) => {
+                self.tally.refused[usize::from(number)] += 1;
+                false
+            }
+            Err(what) => {
+                self.tally.differ += 1;
+                if self.smallest.as_ref().is_none_or(|(least, _)| bytes.len() < least.len()) {
+                    self.smallest = Some((bytes.to_vec(), what));
+                }
+                false
+            }
+        }
+    }
+
+    fn function(&mut self, f: &Function, encoded: &mut Encoded) -> bool {
+        encoded.fill(f);
+        self.tally.sizes(f, encoded.bytes.len());
+        let refused: u64 = self.tally.refused.iter().sum();
+        let same = self.record(&encoded.bytes);
+        if self.tally.refused.iter().sum::<u64>() > refused {
+            self.tally.differ += 1;
+            self.smallest = Some((encoded.bytes.clone(), "made to be accepted, and refused".to_string()));
+        }
+        same
+    }
+}
+
+/// Compares until the count or the time is reached; whether nothing differs.
+pub fn run(options: &Options) -> bool {
+    let start = Instant::now();
+    let (mut small, mut generator) = (Small::new(), Generator::new(options.seed));
+    let tally = Tally { codes: vec![0; 72], ..Tally::default() };
+    let mut c = Compare { tally, out: Guarded::new(), smallest: None };
+    let mut encoded = Encoded::default();
+    let mut said = Duration::ZERO;
+    let done = |tally: &Tally| match options.count {
+        Some(count) => tally.accepted() >= count,
+        None => start.elapsed() >= Duration::from_secs(options.seconds),
+    };
+    while !done(&c.tally) {
+        for _ in 0..16 {
+            match small.next() {
+                Some(f) => c.tally.small += u64::from(c.function(&f, &mut encoded)),
+                None => c.tally.all_small = true,
+            }
+        }
+        let f = generator.function();
+        c.tally.random += u64::from(c.function(&f, &mut encoded));
+        if encoded.bytes.len() < 20_000 {
+            for _ in 0..2 {
+                let copy = damaged(&encoded, generator.rng());
+                c.tally.still_accepted += u64::from(c.record(&copy));
+            }
+        }
+        if start.elapsed() > said + Duration::from_secs(5) {
+            said = start.elapsed();
+            progress(&c.tally, said);
+        }
+    }
+    summary(&mut c, options, start.elapsed());
+    c.tally.differ == 0
+}
+
+fn progress(t: &Tally, time: Duration) {
+    let (seconds, accepted, refused) = (time.as_secs(), t.accepted(), t.refused.iter().sum::<u64>());
+    eprintln!("{seconds} s: {accepted} functions, {refused} refusals, {} differ", t.differ);
+}
+
+fn summary(c: &mut Compare, options: &Options, time: Duration) {
+    let (t, l) = (&c.tally, &c.tally.largest);
+    let all = if t.all_small { "all of them" } else { "not all of them" };
+    println!("seed {}, {:.1} s", options.seed, time.as_secs_f64());
+    println!("{} functions rewritten to the bytes of the Rust:", t.accepted());
+    println!("  {} blocks of up to three instructions over two names ({all})", t.small);
+    println!("  {} random functions, {} damaged copies that are accepted", t.random, t.still_accepted);
+    println!("  {} of these with a division on which the Rust panics: the same up to it, and it stays", t.divisions);
+    println!("  outputs one byte short, exact and longer, between guard bytes; two name texts each");
+    println!("{} saves; instructions of each code, terminators last:", t.saves);
+    let counts: Vec<String> =
+        CODES.iter().map(|code| format!("{code}: {}", t.codes[usize::from(*code)])).collect();
+    println!("  {}", counts.join(", "));
+    println!(
+        "largest: {} arguments, {} names, text {}, {} blocks of up to {}, record {}, rewriting {} bytes",
+        l.args, l.names, l.text, l.blocks, l.body, l.record, l.rewriting
+    );
+    let refused: Vec<String> = (1..9).map(|n| format!("{n}: {}", t.refused[n])).collect();
+    println!("refusals as by the second reading of document 01: {}", refused.join(", "));
+    let (same, differ) = (t.accepted() + t.refused.iter().sum::<u64>(), t.differ);
+    if let Some((record, _)) = c.smallest.take() {
+        let least = one::shrink(&record, &mut c.out);
+        let what = one::compare(&least, &mut c.out).err().unwrap_or_default();
+        println!("smallest that differs:\n{}\n{what}", hex(&least));
+    }
+    println!("{same} the same, {differ} differ");
+}
