@@ -4,3 +4,4 @@ pub mod Wrote
 pub mod Digits
 pub mod Made
 pub mod Parts
+pub mod Moved

@@ -1,7 +1,7 @@
 // Writing to a lent slice. A store past the end does nothing, so no writer asks for room, and over an empty slice it learns the size.
 ghost use mathlib.Core.Path.{_≡_};
 ghost use Prim.Native.Nat.{_+_, _^_, _<_, _≤_};
-ghost use lib.ListN.{take, drop};
+ghost use lib.ListN.{length, take, drop};
 ghost use Rattle.record.specs.Write.{be, name-bytes};
 ghost use Rattle.numbering.specs.Made.{digits, made-text};
 ghost use Rattle.emit.specs.Put.{put, Wrote, IdWidth};
@@ -116,4 +116,17 @@ pub fn put_made(
     let end = put_made_text(out, at + 2, src, from, n, k);
     put_u8(out, at + 1, (end - at - 2) as u8);
     end
+}
+
+// Moves n bytes from a place to a later one, the last first.
+pub fn move_up(out: &mut [u8], from: usize, to: usize, n: usize)
+    requires { ⌜ (from ≤ to) × (to + n ≤ length (now out)) ⌝ }
+    ensures { λ _. ⌜ now (out .exit) ≡ put (now (out .entry)) to (take n (drop from (now (out .entry)))) ⌝ }
+{
+    let mut left = n;
+    while left > 0 {
+        left -= 1;
+        let x = out[from + left];
+        out[to + left] = x;
+    }
 }

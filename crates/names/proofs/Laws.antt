@@ -7,7 +7,7 @@ use mathlib.Core.Bool.{Bool, true, false, not, _&&_, _||_}
 use native.Mathlib.Omega.{arith}
 use lib.ListN.{length, getD, take, drop}
 use lib.Dec.{ltb, leb}
-use borrow.Author.Tests.{lt-ltb, le-ltb, lt-leb, le-leb, leb-true}
+use borrow.Author.Tests.{lt-ltb, le-ltb, lt-leb, le-leb, leb-true, ltb-false}
 use Rattle.record.specs.declared.Limits.{Limits}
 use Rattle.record.specs.declared.Refusal.{Refusal}
 use Rattle.record.specs.declared.Refusal.the-variants.{Length, Limit, Text}
@@ -85,39 +85,42 @@ module _ (w : ℕ) (test : ℕ → Test) (s : List ℕ) (at x p : ℕ) where
       go false (Fails k) h e = let clash : _≡_ {A = ℕ} 0 1 = cc in absurd (omega arith)
 
 module _ (n : ℕ) (test : List ℕ → Test) (s : List ℕ) (t : ℕ) (x : List ℕ) (p : ℕ) where
-  text-tells : text n test s t ≡ got x p → (x ≡ take n (drop t s)) × (p ≡ t + n)
+  text-tells : 0 < n → text n test s t ≡ got x p → (x ≡ take n (drop t s)) × (p ≡ t + n) × (p ≤ length s)
   unfolding text
-  text-tells e = go (ltb (length s - t) n) (test (take n (drop t s))) e
+  text-tells z e = go (ltb (length s - t) n) (test (take n (drop t s))) refl e
     where
-      go : (b : Bool) (v : Test) → refuse b Length t (judge v t (got (take n (drop t s)) (t + n))) ≡ got x p →
-          (x ≡ take n (drop t s)) × (p ≡ t + n)
-      go true v e = let clash : _≡_ {A = ℕ} 0 1 = cc in absurd (omega arith)
-      go false Passes e = (cc, cc)
-      go false (Fails k) e = let clash : _≡_ {A = ℕ} 0 1 = cc in absurd (omega arith)
+      go : (b : Bool) (v : Test) → ltb (length s - t) n ≡ b →
+          refuse b Length t (judge v t (got (take n (drop t s)) (t + n))) ≡ got x p →
+          (x ≡ take n (drop t s)) × (p ≡ t + n) × (p ≤ length s)
+      go true v h e = let clash : _≡_ {A = ℕ} 0 1 = cc in absurd (omega arith)
+      go false Passes h e = let ends : p ≡ t + n = cc in (cc, ends, omega (arith, ltb-false (length s - t) n h))
+      go false (Fails k) h e = let clash : _≡_ {A = ℕ} 0 1 = cc in absurd (omega arith)
 
 pub type-ends : (s : List ℕ) (p x q : ℕ) → field 1 type-test s p ≡ got x q → q ≡ p + 1
 type-ends s p x q e = field-tells 1 type-test s p x q e .1
 
-pub length-tells : (most : ℕ) (s : List ℕ) (q n t : ℕ) → field 1 (text-length-test most) s q ≡ got n t → (0 < n) × (t ≡ q + 1)
+pub length-tells :
+    (most : ℕ) (s : List ℕ) (q n t : ℕ) → field 1 (text-length-test most) s q ≡ got n t →
+    (0 < n) × (t ≡ q + 1) × (n ≡ getD s q 0)
 length-tells most s q n t e =
     let f = field-tells 1 (text-length-test most) s q n t e in
-    (length-passes most n (f .2), f .1)
+    (length-passes most n (f .2), f .1, f .0)
 
 module _ (lim : Limits) (seen : List (List ℕ)) (s : List ℕ) (p : ℕ) where
-  name-tells : (x : Name) (q : ℕ) → name lim seen s p ≡ got x q → (x .text ≡ text-of s p) × (q ≡ next-name s p)
+  name-tells : (x : Name) (q : ℕ) → name lim seen s p ≡ got x q → (x .text ≡ text-of s p) × (q ≡ next-name s p) × (q ≤ length s)
   unfolding name give text-of next-name
   name-tells x q e =
       let a = bind-got (field 1 type-test) _ s p x q e in
       let fa = field-tells 1 type-test s p (a .value) (a .place) (a .first) in
       let b = bind-got (field 1 (text-length-test (lim .text))) _ s (a .place) x q (a .second) in
-      let fb = field-tells 1 (text-length-test (lim .text)) s (a .place) (b .value) (b .place) (b .first) in
+      let fb = length-tells (lim .text) s (a .place) (b .value) (b .place) (b .first) in
       let c = bind-got (text (b .value) (text-test (lim .made) seen)) _ s (b .place) x q (b .second) in
-      let fc = text-tells (b .value) (text-test (lim .made) seen) s (b .place) (c .value) (c .place) (c .first) in
-      let n : b .value ≡ getD s (p + 1) 0 = fb .0 ∙ ap (λ (k : ℕ). getD s k 0) (fa .1) in
+      let fc = text-tells (b .value) (text-test (lim .made) seen) s (b .place) (c .value) (c .place) (fb .0) (c .first) in
+      let n : b .value ≡ getD s (p + 1) 0 = fb .2 ∙ ap (λ (k : ℕ). getD s k 0) (fa .1) in
       let t : b .place ≡ p + 1 + 1 = fb .1 ∙ ap (λ (k : ℕ). k + 1) (fa .1) in
       let same : x .text ≡ c .value = cc (c .second) in
       let ends : q ≡ c .place = cc (c .second) in
-      (same ∙ fc .0 ∙ (λ i. take (n i) (drop (t i) s)), ends ∙ fc .1 ∙ (λ i. t i + n i))
+      (same ∙ fc .0 ∙ (λ i. take (n i) (drop (t i) s)), ends ∙ fc .1 ∙ (λ i. t i + n i), omega (arith, fc .2))
 
   -- the name's tests one after the other
   pub type-refused : (k : Refusal) (o : ℕ) → field 1 type-test s p ≡ fault k o → Refused k o ≡ verdict (name lim seen s p)
@@ -162,7 +165,9 @@ module _ (lim : Limits) (seen : List (List ℕ)) (s : List ℕ) (p : ℕ) where
 
   one-went :
       (n q : ℕ) → verdict (name lim seen s p) ≡ At q →
-      (q ≡ next-name s p) × (verdict (names lim (seen ++ (text-of s p ∷ [])) n s q) ≡ verdict (names lim seen (suc n) s p))
+      (q ≡ next-name s p)
+      × (verdict (names lim (seen ++ (text-of s p ∷ [])) n s q) ≡ verdict (names lim seen (suc n) s p))
+      × (q ≤ length s)
   unfolding names
   one-went n q e =
       let g = passes (name lim seen s p) q e in
@@ -171,6 +176,7 @@ module _ (lim : Limits) (seen : List (List ℕ)) (s : List ℕ) (p : ℕ) where
         f .1,
         ap (λ (t : List ℕ). verdict (names lim (seen ++ (t ∷ [])) n s q)) (sym (f .0))
             ∙ read-is (name lim seen) _ s p x q _ (g .1) (sym (made (names lim (seen ++ (x .text ∷ [])) n) (λ xs. x ∷ xs) s q)),
+        f .2,
       )
 
 -- of `count` names from `at` on `left` are left, and p is the place of the first of those
@@ -189,7 +195,7 @@ module _ (lim : Limits) (s : List ℕ) (at count : ℕ) where
     one-more : suc (count - left) ≡ count - (left - 1)
     one-more = omega arith
 
-    more-seen : texts-from s at (count - (left - 1)) ≡ seen ++ (text-of s p ∷ [])
+    pub more-seen : texts-from s at (count - (left - 1)) ≡ seen ++ (text-of s p ∷ [])
     more-seen =
         ap (texts-from s at) (sym one-more)
         ∙ texts-more s at (count - left)
@@ -199,13 +205,15 @@ module _ (lim : Limits) (s : List ℕ) (at count : ℕ) where
     names-stopped k o e = one-stopped lim seen s p (left - 1) k o e ∙ ap (λ (n : ℕ). verdict (names lim seen n s p)) one-less
 
     pub names-went :
-        (q : ℕ) → verdict (name lim seen s p) ≡ At q → (q ≡ behind s at (count - (left - 1))) × (rest (left - 1) q ≡ rest left p)
+        (q : ℕ) → verdict (name lim seen s p) ≡ At q →
+        (q ≡ behind s at (count - (left - 1))) × (rest (left - 1) q ≡ rest left p) × (next-name s p ≤ length s)
     names-went q e =
         let w = one-went lim seen s p (left - 1) q e in (
           w .0 ∙ ap (next-name s) ep ∙ sym (behind-more s at (count - left)) ∙ ap (behind s at) one-more,
           ap (λ (us : List (List ℕ)). verdict (names lim us (left - 1) s q)) more-seen
               ∙ w .1
               ∙ ap (λ (n : ℕ). verdict (names lim seen n s p)) one-less,
+          omega (arith, w .0, w .2),
         )
 
 pub names-done : (lim : Limits) (seen : List (List ℕ)) (s : List ℕ) (p left : ℕ) → left ≡ 0 → At p ≡ verdict (names lim seen left s p)

@@ -1,22 +1,25 @@
 // The check of names: a type, a text's length and the text of each. The names before one are those that stand from a place on, k of them;
 // their texts are the texts that the definition has seen.
 use fields::Num;
+use fields::byte_or;
 use record::Limits;
 use record::Next;
 use record::Refusal;
 use record::Test;
 ghost use mathlib.Core.Path.{_≡_};
-ghost use mathlib.Core.Bool.{not, _||_};
+ghost use mathlib.Core.Bool.{cond, not, _||_};
 ghost use mathlib.Core.List.{[]};
 ghost use Prim.Native.Nat.{_+_, _<_, _≤_};
 ghost use lib.ListN.{length, take, drop};
+ghost use lib.Dec.{eqb};
 ghost use Rattle.record.specs.Reader.{field, text};
 ghost use Rattle.record.specs.Text.{reserved};
 ghost use Rattle.record.specs.Tests.{type-test, text-length-test, text-test};
 ghost use Rattle.record.specs.Read.{name, names};
 ghost use Rattle.record.specs.Answer.{verdict};
 ghost use Rattle.fields.specs.Answer.{res};
-ghost use Rattle.texts.specs.Names.{texts-from, behind};
+ghost use Rattle.texts.specs.Names.{text-of, next-name, texts-from, behind};
+ghost use Rattle.names.specs.Marks.{mark};
 
 // ---- a name's type and its text's length
 // A type whose low half is above 3 is refused.
@@ -96,6 +99,45 @@ pub fn text_at(lim: Limits, s: &[u8], from: usize, k: u64, t: usize, n: usize) -
     }
 }
 
+// ---- marks, by which a text is known to be new without a search
+// The mark of the text at t.
+pub fn mark_of(s: &[u8], t: usize, n: usize) -> usize
+    requires { ⌜ t + n ≤ length (now s) ⌝ }
+    ensures { λ r. ⌜ (r ≡ mark 0 (take n (drop t (now (s .entry))))) × (r < 2048) ⌝ }
+{
+    let mut h: u64 = 0;
+    let mut p = t;
+    let mut left = n;
+    while left > 0 {
+        h = (h * 37 + byte_or(s, p)) % 2048;
+        p += 1;
+        left -= 1;
+    }
+    h as usize
+}
+
+// The mark of the text of the name at p; any mark where the bytes end before the text does.
+pub fn mark_at(s: &[u8], p: usize) -> usize
+    ensures { λ r. ⌜ (r < 2048) × (next-name (now (s .entry)) p ≤ length (now (s .entry)) → r ≡ mark 0 (text-of (now (s .entry)) p)) ⌝ }
+{
+    if fields::left(s, p) < 2 {
+        return 0;
+    }
+    let n = byte_or(s, p + 1) as usize;
+    let t = p + 1 + 1;
+    if fields::left(s, t) < n {
+        return 0;
+    }
+    mark_of(s, t, n)
+}
+
+// How many of the k names before a text are searched for it: none where its mark m is not set.
+pub fn to_search(m: u8, k: u64) -> u64
+    ensures { λ r. ⌜ r ≡ cond (eqb m 0) 0 k ⌝ }
+{
+    if m == 0 { 0 } else { k }
+}
+
 // ---- names
 // The name at p, with k names before it from a place on.
 pub fn name_at(lim: Limits, s: &[u8], from: usize, k: u64, p: usize) -> Next
@@ -111,14 +153,18 @@ pub fn name_at(lim: Limits, s: &[u8], from: usize, k: u64, p: usize) -> Next
     }
 }
 
-// `count` names from a place on, one behind the other.
+// `count` names from a place on, one behind the other. seen: 1 at the mark of each text before.
 pub fn names_at(lim: Limits, s: &[u8], at: usize, count: u64) -> Next
     ensures { λ r. ⌜ r ≡ verdict (names lim [] count (now (s .entry)) at) ⌝ }
 {
+    let mut seen = [0u8; 2048];
     let mut p = at;
     let mut left = count;
     while left > 0 {
-        match name_at(lim, s, at, count - left, p) {
+        let h = mark_at(s, p);
+        let k = to_search(seen[h], count - left);
+        seen[h] = 1;
+        match name_at(lim, s, at, k, p) {
             Next::At(next) => {
                 p = next;
             }

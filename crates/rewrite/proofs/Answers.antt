@@ -1,5 +1,5 @@
 -- From what was measured and written to the answer of rewrite and to its whole output.
-use Prim.Native.Nat.{ℕ, _+_, _*_, _<_, _≤_}
+use Prim.Native.Nat.{ℕ, _+_, _*_, _/_, _<_, _≤_}
 use mathlib.Core.Path.{_≡_, refl, sym, ap, _∙_}
 use mathlib.Core.List.{List, map}
 use mathlib.Core.Bool.{true, false}
@@ -10,7 +10,7 @@ use lib.Dec.{ltb}
 use borrow.Author.Tests.{lt-ltb, le-ltb}
 use Rattle.record.specs.declared.Refusal.{Refusal}
 use Rattle.record.specs.declared.Checked.the-variants as answer
-use Rattle.record.specs.Record.{Placed, Name, Record, limits}
+use Rattle.record.specs.Record.{Placed, Name, Record, plain, limits}
 use Rattle.record.specs.Reader.{Res, got, fault}
 use Rattle.record.specs.Read.{read}
 use Rattle.record.specs.Typing.{accept}
@@ -22,6 +22,7 @@ use Rattle.record.proofs.Typed.{accept-typed}
 use Rattle.numbering.specs.declared.Rewritten.the-variants.{Written, Refused, Room}
 use Rattle.numbering.specs.Made.{made}
 use Rattle.numbering.specs.Rewrite.{rewritten-bytes, rewrite-result, rewrite-output, rewrite, rewrite-leaves}
+use Rattle.numbering.proofs.Size.{rewriting-size}
 use Rattle.emit.specs.Put.{put}
 use Rattle.emit.proofs.Put.{put-first}
 use Rattle.typing.specs.Passes.{types-from}
@@ -29,7 +30,8 @@ use Rattle.tables.specs.Named.{places-from, NamesAt}
 use Rattle.tables.proofs.Laws.{places-hold}
 use Rattle.blocks.proofs.Whole.{record-again}
 use Rattle.rewrite.specs.Parts.{record-in, rewriting-in, Reads, types-in}
-use Rattle.rewrite.proofs.Known.{few-names}
+use Rattle.rewrite.proofs.ReadSize.{read-size}
+use Rattle.rewrite.proofs.Known.{few-names, record-ok}
 
 -- ---- the table of types, its first n entries
 pub types-first :
@@ -142,3 +144,14 @@ module _ (s : List ℕ) (n : ℕ) (size : n ≡ length (bytes (rewriting-in s)))
       {out′ : List ℕ} → n ≤ length out → out′ ≡ put out 0 (bytes (rewriting-in s)) → out′ ≡ rewrite-output out (got (record-from s) 0)
   unfolding rewrite-output rewritten-bytes
   written-output l e = rw (long l) (e ∙ put-first out (bytes (rewriting-in s)) (omega (arith, size, l)))
+
+-- ---- an output of seven bytes for each of the input has room
+pub seven-times :
+    {s : List ℕ} {end : ℕ} (out : List ℕ) → Reads s end → length s ≤ length out / 7 → length (bytes (rewriting-in s)) ≤ length out
+seven-times {s} out h l =
+    let r = record-again s (h .it) (h .behind) (h .reads) in
+    let n : length (bytes (plain (h .it))) ≤ length s = read-size s (h .it) (h .behind) (h .reads) in
+    let m : length (bytes (rewriting-in s)) ≤ 7 * length (bytes (record-in s)) = rewriting-size (record-in s) (record-ok h) in
+    let e : length (bytes (plain (h .it))) ≡ length (bytes (record-in s)) = ap (λ (x : Record Placed). length (bytes (plain x))) r in
+    let d : length out / 7 * 7 ≤ length out = omega arith in
+    omega (arith, l, n, m, e, d)

@@ -1,10 +1,10 @@
 -- What the code knows of a record that is read without a fault: its counts, what numbering its blocks asks and what it then has.
-use Prim.Native.Nat.{ℕ, _+_, _-_, _<_, _≤_}
+use Prim.Native.Nat.{ℕ, _+_, _-_, _*_, _<_, _≤_}
 use mathlib.Core.Path.{_≡_, refl, sym, ap, _∙_, subst}
 use mathlib.Core.List.{List, [], _∷_, _++_, map}
 use native.Mathlib.Omega.{arith}
-use lib.ListN.{length, getD, take, drop, length-map, List·getD-map}
-use lib.Seq.{getD-take, take-append-seam}
+use lib.ListN.{length, getD, take, drop, length-map, length-drop, List·getD-map}
+use lib.Seq.{length-take-le, getD-take, take-append-seam}
 use Rattle.record.specs.declared.NameIx.{NameIx}
 use Rattle.record.specs.Record.{nm, Instr, Placed, Block, Name, Record, Function, plain-block, plain, function, limits, id-bytes}
 use Rattle.record.specs.Reader.{got, num-at}
@@ -17,7 +17,8 @@ use Rattle.record.proofs.Accepted.{read-ok}
 use Rattle.record.proofs.Decode.{length-items}
 use Rattle.numbering.specs.Number.{lvn}
 use Rattle.numbering.specs.Made.{made-names, made, rewriting}
-use Rattle.numbering.proofs.Wide.{made-few, made-original, rewriting-names, blocks-length}
+use Rattle.numbering.proofs.Made.{temps-behind}
+use Rattle.numbering.proofs.Wide.{input-blocks, blocks-few, made-count, made-few, made-original, rewriting-names, blocks-length}
 use Rattle.emit.specs.Put.{put, Wrote, IdWidth}
 use Rattle.emit.proofs.Put.{put-first, length-put}
 use Rattle.emit.proofs.Numbers.{id-width}
@@ -84,6 +85,22 @@ module _ {s : List ℕ} {end : ℕ} (h : Reads s end) where
 
   names-lie : names-end s ≤ length s
   names-lie = omega (arith, names-inside limits s (h .it) (h .behind) (h .reads))
+
+  -- a block has at most 256 saves
+  made-each : length (made (record-in s)) ≤ 256 * num-at s end 2
+  made-each =
+      let x = record-in s in
+      let k : temps-behind (function x) 0 (x .blocks) ≤ 0 + 256 * length (x .blocks) =
+      blocks-few (function x) (length (x .blocks)) (x .blocks) 0 (input-blocks x record-ok) in
+      rw (h .names) (omega (arith, k, made-count x record-ok, blocks-number s))
+
+  -- the names are copied whole, and what follows them stands behind
+  pub names-before :
+      {p q : ℕ} → p ≡ 8 + length (take (end - 8) (drop 8 s)) → p ≤ q → end + 2 ≤ q + 2
+  names-before e f =
+      let l : length (take (end - 8) (drop 8 s)) ≡ end - 8 =
+      length-take-le (end - 8) (drop 8 s) (omega (arith, length-drop 8 s, h .names, names-lie)) in
+      omega (arith, e, f, l)
 
   types-many : {types : List ℕ} → types ≡ types-in s → length types ≡ names-count s
   types-many e = ap length e ∙ length-map (record-in s .names) (λ (x : Name). x .type) ∙ names-in s
@@ -152,18 +169,18 @@ module _ {s : List ℕ} {end : ℕ} (h : Reads s end) where
           (e ∙ ap id-bytes (sym (version-in s)))
           (blocks-written (record-in s) refl (blocks-at w count e f) exact)
 
-      pub blocks-noted : 16384 ≤ length names → Noted s names′ (r .k)
+      pub blocks-noted : 256 * num-at s end 2 ≤ length names → Noted s names′ (r .k)
       blocks-noted room =
           let x = record-in s in
           let many : r .k ≡ length (made x) = made-many x refl (blocks-at w count e f) exact in
-          let few : length (made x) ≤ 16384 = made-few x record-ok in
+          let few : length (made x) ≤ length names = omega (arith, made-each, room) in
           let same : length (indexes (made x)) ≡ length (made x) = length-map (made x) (λ (y : NameIx). y .0) in
           let noted : Wrote names names′ 0 (r .k) (indexes (made x)) = made-noted x refl (blocks-at w count e f) exact in
           let whole : names′ ≡ indexes (made x) ++ drop (length (indexes (made x))) names =
-          noted .out ∙ put-first names (indexes (made x)) (omega (arith, same, few, room)) in
+          noted .out ∙ put-first names (indexes (made x)) (omega (arith, same, few)) in
           record {
             many = many;
-            room = omega (arith, many, few, room, ap length (noted .out), length-put names 0 (indexes (made x)));
+            room = omega (arith, many, few, ap length (noted .out), length-put names 0 (indexes (made x)));
             saved =
                 (λ i. take ((many ∙ sym same) i) (whole i)) ∙
                 take-append-seam (indexes (made x)) (drop (length (indexes (made x))) names);

@@ -1,4 +1,5 @@
 pub mod Inside
 pub mod Parts
+pub mod ReadSize
 pub mod Known
 pub mod Answers

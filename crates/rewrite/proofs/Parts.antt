@@ -3,12 +3,13 @@ use Prim.Native.Nat.{ℕ, _+_, _-_, _≤_}
 use mathlib.Core.Path.{_≡_, refl, sym, ap, _∙_, subst}
 use mathlib.Core.List.{List, [], _∷_, _++_, map, append-nil, append-assoc, map-append}
 use native.Mathlib.Omega.{arith}
-use lib.ListN.{length, length-append}
+use lib.ListN.{length, take, drop, length-append}
 use Rattle.record.specs.Record.{Instr, Name, Record}
 use Rattle.record.specs.Write.{be, join, name-bytes, content-bytes, bytes}
 use Rattle.record.proofs.Stands.{length-be}
-use Rattle.record.proofs.Sizes.{record-size}
+use Rattle.record.proofs.Sizes.{join-cons, record-size}
 use Rattle.emit.specs.Put.{put, Wrote}
+use Rattle.emit.proofs.Put.{put-before, put-over, put-part}
 use Rattle.emit.proofs.Wrote.{wrote-append, wrote-number}
 use Rattle.rewrite.specs.Parts.{front-parts, blocks-bytes}
 
@@ -23,6 +24,10 @@ unfolding content-bytes join
 parts-whole r x =
     ap (λ (l : List ℕ). join (be 4 x ∷ front-parts r) ++ l) (sym (append-nil (blocks-bytes r))) ∙
     join-append (be 4 x ∷ front-parts r) (blocks-bytes r ∷ [])
+
+-- L has four bytes, whatever it says
+front-size : (r : Record Instr) (x : ℕ) → length (join (be 4 x ∷ front-parts r)) ≡ 4 + length (join (front-parts r))
+front-size r x = join-cons (be 4 x) (front-parts r) ∙ ap (λ (n : ℕ). n + length (join (front-parts r))) (length-be 4 x)
 
 -- ---- measured: the places behind the parts, each from 0 on
 pub parts-size :
@@ -57,6 +62,33 @@ parts-written {l} r x size a b e f =
     let h : x ≡ length (content-bytes r) = omega arith in
     wrote-append (join (be 4 x ∷ front-parts r)) (blocks-bytes r) a b .out ∙
     ap (put l 0) (parts-whole r x ∙ ap (λ (k : ℕ). be 4 k ++ content-bytes r) h)
+
+-- ---- written once: the blocks from i on, then moved behind what stands before them, which is written last
+pub parts-moved :
+    {l m n o : List ℕ} {p q : ℕ} (r : Record Instr) (i x : ℕ) →
+    Wrote l m i q (blocks-bytes r) →
+    p ≡ 0 + length (join (be 4 0 ∷ front-parts r)) →
+    i ≤ p →
+    length (bytes r) ≤ length l →
+    n ≡ put m p (take (q - i) (drop i m)) →
+    o ≡ put n 0 (join (be 4 x ∷ front-parts r)) →
+    x ≡ p + (q - i) - 4 →
+    o ≡ put l 0 (bytes r)
+unfolding bytes
+parts-moved {l} {m} {n} {o} {p} {q} r i x a e h room f g y =
+    let B = blocks-bytes r in
+    let F = join (be 4 x ∷ front-parts r) in
+    let k : q - i ≡ length B = let z : q ≡ i + length B = a .end in omega arith in
+    let same : length F ≡ p = omega (arith, front-size r x, front-size r 0, e) in
+    let size : p + length B ≡ length (bytes r) = parts-size r 0 p (length B) e (omega arith) in
+    let L : x ≡ length (content-bytes r) = omega (arith, y, k, size, record-size r) in
+    let part : take (q - i) (drop i m) ≡ B =
+    (λ z. take (k z) (drop i (a .out z))) ∙ put-part l i B (omega (arith, h, size, room)) in
+    let at : p ≡ 0 + length F = omega (arith, same) in
+    let moved : n ≡ put (put l i B) (0 + length F) B = f ∙ (λ z. put (a .out z) (at z) (part z)) in
+    g ∙ ap (λ (t : List ℕ). put t 0 F) moved ∙ put-before (put l i B) 0 F B ∙
+    put-over l i 0 B (F ++ B) (omega arith) (omega (arith, h, same, length-append F B)) ∙
+    ap (put l 0) (parts-whole r x ∙ ap (λ (k : ℕ). be 4 k ++ content-bytes r) L)
 
 -- ---- what stands before the blocks: L, the head, the input's names, the made ones, B
 -- v: version, a: A, n: N, xs and ys: the names

@@ -1,14 +1,15 @@
 -- The rewriting of an accepted record by its parts, and what is known of the record and of the made names while it is written.
-use Prim.Native.Nat.{ℕ, _≤_}
+use Prim.Native.Nat.{ℕ, _*_, _≤_}
 use mathlib.Core.List.{List, [], _∷_, map}
 use mathlib.Core.Path.{_≡_}
 use lib.ListN.{length, take}
 use Rattle.record.specs.Record.{Instr, Placed, Record, function, plain, limits, id-bytes}
-use Rattle.record.specs.Reader.{got}
+use Rattle.record.specs.Reader.{got, num-at}
 use Rattle.record.specs.Read.{read}
 use Rattle.record.specs.Write.{be, join, name-bytes, block-bytes}
-use Rattle.record.specs.Decode.{names-end, record-from}
+use Rattle.record.specs.Decode.{names-count, names-end, record-from}
 use Rattle.numbering.specs.Made.{made, rewriting}
+use Rattle.tables.specs.Named.{NamesAt}
 use Rattle.blocks.specs.Block.{indexes}
 
 -- the record that stands in these bytes, and its rewriting
@@ -37,6 +38,20 @@ pub record Reads (s : List ℕ) (end : ℕ) : Type 0 where
 -- the types of its names
 abbrev pub types-in : List ℕ → List ℕ
 types-in s = function (record-in s) .types
+
+-- what is known of s and its names while it is rewritten
+pub record Typed (s ts ps : List ℕ) (end : ℕ) : Type 0 where
+  pub reads : Reads s end
+  pub types : ts ≡ types-in s
+  pub places : NamesAt s ps (names-count s)
+
+-- what numbering its blocks is lent: the types, the table of numbered values, and a table for what each K saves
+pub record Lent (s ts hs ns ms : List ℕ) (end : ℕ) : Type 0 where
+  pub reads : Reads s end
+  pub types : ts ≡ types-in s
+  pub heads : 512 ≤ length hs
+  pub nums : 512 ≤ length ns
+  pub names : 256 * num-at s end 2 ≤ length ms
 
 -- K counts the saves of the rewriting, and the table holds what each K saved
 pub record Noted (s names : List ℕ) (k : ℕ) : Type 0 where

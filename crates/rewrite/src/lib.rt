@@ -1,21 +1,23 @@
-// Rewrite: a record is checked and its rewriting written. The blocks are numbered twice: over an empty output, which gives the bytes
-// needed and the names that are made, then over the output.
+// Rewrite: a record is checked and its rewriting written. Where the output surely has room, the blocks are written once and then moved
+// behind the names that are made. Otherwise they are numbered twice: over an empty output, which gives the bytes needed and the made
+// names, then over the output.
 use blocks::Places;
 use numbering::Rewritten;
 use record::Checked;
 ghost use mathlib.Core.Path.{_≡_};
 ghost use mathlib.Core.List.{_∷_};
-ghost use Prim.Native.Nat.{_+_, _<_, _≤_};
+ghost use Prim.Native.Nat.{_+_, _*_, _≤_};
 ghost use lib.ListN.{length};
-ghost use Rattle.record.specs.Reader.{got};
+ghost use Rattle.record.specs.Reader.{got, num-at};
 ghost use Rattle.record.specs.Write.{be, join, bytes};
 ghost use Rattle.record.specs.Answer.{checked};
 ghost use Rattle.record.specs.Decode.{names-count, record-from};
 ghost use Rattle.record.specs.declared.Checked.the-variants.{Accepted};
+ghost use Rattle.numbering.specs.Made.{made};
 ghost use Rattle.numbering.specs.Rewrite.{rewrite-result, rewrite-output, rewrite, rewrite-leaves};
 ghost use Rattle.tables.specs.Named.{NamesAt};
 ghost use Rattle.emit.specs.Put.{put, Wrote};
-ghost use Rattle.rewrite.specs.Parts.{rewriting-in, front-parts, blocks-bytes, Reads, types-in, Noted};
+ghost use Rattle.rewrite.specs.Parts.{record-in, rewriting-in, front-parts, blocks-bytes, Reads, Lent, Typed, Noted};
 
 // The blocks of the rewriting, from a place on; the place behind them, and K. end: where the input's names end; names: what each K saved.
 pub fn put_blocks(
@@ -28,9 +30,7 @@ pub fn put_blocks(
     end: usize,
     at: usize,
 ) -> Places
-    requires { ⌜
-        Reads (now s) end × ((now types ≡ types-in (now s)) × ((at ≤ 4000000) ×
-        ((512 ≤ length (now heads)) × ((512 ≤ length (now nums)) × (16384 ≤ length (now names)))))) ⌝ }
+    requires { ⌜ Lent (now s) (now types) (now heads) (now nums) (now names) end × (at ≤ 4000000) ⌝ }
     ensures { λ r. ⌜
         Wrote (now (out .entry)) (now (out .exit)) at (r .q) (blocks-bytes (rewriting-in (now (s .entry)))) ×
         (Noted (now (s .entry)) (now (names .exit)) (r .k) × (r .q ≤ at + 2000000)) ⌝ }
@@ -60,7 +60,7 @@ pub fn put_front(
         Reads (now s) end × (Noted (now s) (now names) k × NamesAt (now s) (now places) (names-count (now s))) ⌝ }
     ensures { λ r. ⌜
         Wrote (now (out .entry)) (now (out .exit)) 0 r (join (be 4 rest ∷ front-parts (rewriting-in (now (s .entry))))) ×
-        (r ≤ 4000000) ⌝ }
+        ((r ≤ 4000000) × (end + 2 ≤ r)) ⌝ }
 {
     let version = fields::byte_or(s, 4) as u8;
     let args = fields::byte_or(s, 5) as u8;
@@ -91,8 +91,7 @@ pub fn measure(
     end: usize,
 ) -> Size
     requires { ⌜
-        Reads (now s) end × ((now types ≡ types-in (now s)) × (NamesAt (now s) (now places) (names-count (now s)) ×
-        ((512 ≤ length (now heads)) × ((512 ≤ length (now nums)) × (16384 ≤ length (now names)))))) ⌝ }
+        Lent (now s) (now types) (now heads) (now nums) (now names) end × NamesAt (now s) (now places) (names-count (now s)) ⌝ }
     ensures { λ r. ⌜
         (r .bytes ≡ length (bytes (rewriting-in (now (s .entry))))) ×
         (Noted (now (s .entry)) (now (names .exit)) (r .saves) × (r .bytes ≤ 6000000)) ⌝ }
@@ -119,10 +118,9 @@ pub fn put_record(
     size: Size,
 )
     requires { ⌜
-        Reads (now s) end × ((now types ≡ types-in (now s)) × (NamesAt (now s) (now places) (names-count (now s)) ×
-        ((512 ≤ length (now heads)) × ((512 ≤ length (now nums)) × ((16384 ≤ length (now names)) ×
-        (Noted (now s) (now names) (size .saves) ×
-        ((size .bytes ≡ length (bytes (rewriting-in (now s)))) × (size .bytes ≤ 6000000)))))))) ⌝ }
+        Lent (now s) (now types) (now heads) (now nums) (now names) end ×
+        (NamesAt (now s) (now places) (names-count (now s)) × (Noted (now s) (now names) (size .saves) ×
+        ((size .bytes ≡ length (bytes (rewriting-in (now s)))) × (size .bytes ≤ 6000000)))) ⌝ }
     ensures { λ _. ⌜ now (out .exit) ≡ put (now (out .entry)) 0 (bytes (rewriting-in (now (s .entry)))) ⌝ }
 {
     let at = put_front(
@@ -137,7 +135,91 @@ pub fn put_record(
     put_blocks(s, types, heads, nums, names, out, end, at);
 }
 
-// Of an accepted record, whose names have these types and places and end there.
+// The rewriting, where the output has room: the blocks are written behind the input's names and moved behind the made ones, then what
+// stands before them.
+pub fn put_once(
+    s: &[u8],
+    types: &[u8],
+    places: &[u32],
+    heads: &mut [u64],
+    nums: &mut [u64],
+    names: &mut [u16],
+    out: &mut [u8],
+    end: usize,
+) -> Size
+    requires { ⌜
+        Lent (now s) (now types) (now heads) (now nums) (now names) end ×
+        (NamesAt (now s) (now places) (names-count (now s)) × (length (bytes (rewriting-in (now s))) ≤ length (now out))) ⌝ }
+    ensures { λ r. ⌜
+        (r .bytes ≡ length (bytes (rewriting-in (now (s .entry))))) ×
+        ((r .saves ≡ length (made (record-in (now (s .entry))))) ×
+        (now (out .exit) ≡ put (now (out .entry)) 0 (bytes (rewriting-in (now (s .entry)))))) ⌝ }
+{
+    let mut none = [0u8; 0];
+    let from = end + 2;
+    let a = put_blocks(s, types, heads, nums, names, out, end, from);
+    let n = a.q - from;
+    let at = put_front(s, places, names, &mut none, end, a.k, 0);
+    emit::move_up(out, from, at, n);
+    put_front(s, places, names, out, end, a.k, (at + n - 4) as u32);
+    Size {
+        bytes: at + n,
+        saves: a.k,
+    }
+}
+
+// The answer, by way of the size.
+pub fn rewrite_measured(
+    s: &[u8],
+    types: &[u8],
+    places: &[u32],
+    heads: &mut [u64],
+    nums: &mut [u64],
+    names: &mut [u16],
+    out: &mut [u8],
+    end: usize,
+) -> Rewritten
+    requires { ⌜
+        Lent (now s) (now types) (now heads) (now nums) (now names) end × NamesAt (now s) (now places) (names-count (now s)) ⌝ }
+    ensures { λ r. ⌜
+        (r ≡ rewrite-result (length (now (out .entry))) (got (record-from (now (s .entry))) 0)) ×
+        (now (out .exit) ≡ rewrite-output (now (out .entry)) (got (record-from (now (s .entry))) 0)) ⌝ }
+{
+    let size = measure(s, types, places, heads, nums, names, end);
+    if out.len() < size.bytes {
+        return Rewritten::Room(size.bytes);
+    }
+    let n = size.bytes;
+    let saves = size.saves as usize;
+    put_record(s, types, places, heads, nums, names, out, end, size);
+    Rewritten::Written(n, saves)
+}
+
+// Of an accepted record, whose names have these types and places and end there. names: a table for what each K saved.
+// A rewriting has at most seven bytes for each of the input, so an output that long has room.
+pub fn rewrite_noting(
+    s: &[u8],
+    types: &[u8],
+    places: &[u32],
+    names: &mut [u16],
+    end: usize,
+    out: &mut [u8],
+) -> Rewritten
+    requires { ⌜ Typed (now s) (now types) (now places) end × (256 * num-at (now s) end 2 ≤ length (now names)) ⌝ }
+    ensures { λ r. ⌜
+        (r ≡ rewrite-result (length (now (out .entry))) (got (record-from (now (s .entry))) 0)) ×
+        (now (out .exit) ≡ rewrite-output (now (out .entry)) (got (record-from (now (s .entry))) 0)) ⌝ }
+{
+    let mut heads = [0u64; 512];
+    let mut nums = [0u64; 512];
+    if out.len() / 7 >= s.len() {
+        let size = put_once(s, types, places, &mut heads, &mut nums, names, out, end);
+        return Rewritten::Written(size.bytes, size.saves as usize);
+    }
+    rewrite_measured(s, types, places, &mut heads, &mut nums, names, out, end)
+}
+
+// The same, with a table that is long enough: few blocks have few saves.
 pub fn rewrite_typed(
     s: &[u8],
     types: &[u8],
@@ -145,33 +227,17 @@ pub fn rewrite_typed(
     end: usize,
     out: &mut [u8],
 ) -> Rewritten
-    requires { ⌜
-        Reads (now s) end × ((now types ≡ types-in (now s)) × NamesAt (now s) (now places) (names-count (now s))) ⌝ }
+    requires { ⌜ Typed (now s) (now types) (now places) end ⌝ }
     ensures { λ r. ⌜
         (r ≡ rewrite-result (length (now (out .entry))) (got (record-from (now (s .entry))) 0)) ×
         (now (out .exit) ≡ rewrite-output (now (out .entry)) (got (record-from (now (s .entry))) 0)) ⌝ }
 {
-    let mut heads = [0u64; 512];
-    let mut nums = [0u64; 512];
-    let mut names = [0u16; 16384];
-    let size = measure(s, types, places, &mut heads, &mut nums, &mut names, end);
-    if out.len() < size.bytes {
-        return Rewritten::Room(size.bytes);
+    if fields::be16(s, end) <= 4 {
+        let mut few = [0u16; 1024];
+        return rewrite_noting(s, types, places, &mut few, end, out);
     }
-    let n = size.bytes;
-    let saves = size.saves as usize;
-    put_record(
-        s,
-        types,
-        places,
-        &mut heads,
-        &mut nums,
-        &mut names,
-        out,
-        end,
-        size,
-    );
-    Rewritten::Written(n, saves)
+    let mut names = [0u16; 16384];
+    rewrite_noting(s, types, places, &mut names, end, out)
 }
 
 // Of an accepted record: the types and places of its names, then the rest.

@@ -9,7 +9,7 @@ returns c =
     let front = c .before .before in
     let blocks = front .before .before .before .before .before .before .before .before .before .before in (
       parts-size _ _ _ _ (front .put-front .ensures .0 .end) (blocks .put-blocks .ensures .0 .end),
-      (blocks .put-blocks .ensures .1 .0, omega (arith, front .put-front .ensures .1, blocks .put-blocks .ensures .1 .1)),
+      (blocks .put-blocks .ensures .1 .0, omega (arith, front .put-front .ensures .1 .0, blocks .put-blocks .ensures .1 .1)),
     )
 
 pub measure-spec : {M : Type 1} → statement M

@@ -13,11 +13,11 @@ blocks-lvn-requires c κs =
     let args = count .before in
     let width = args .before in
     let version = width .before in
-    let p = version .before .before .before .before .before .before .before .pre in
+    let pre = version .before .before .before .before .before .before .before .pre in
+    let p = pre .0 in
     let w = width .id-bytes .ensures ∙ ap id-bytes (version .byte-or .ensures .0) in (
-      blocks-ask (p .0) _ _ _ _ (p .1 .0) w (args .byte-or2 .ensures .0) (count .be16 .ensures .0)
-          (p .1 .1 .0) (p .1 .1 .1 .0) (p .1 .1 .1 .1 .0),
-      blocks-pass (p .0) _ _ (p .1 .0) w (count .be16 .ensures .0),
+      blocks-ask (p .reads) _ _ _ _ (p .types) w (args .byte-or2 .ensures .0) (count .be16 .ensures .0) (pre .1) (p .heads) (p .nums),
+      blocks-pass (p .reads) _ _ (p .types) w (count .be16 .ensures .0),
     )
 
 returns : tie.Need-returns
@@ -27,13 +27,13 @@ returns c =
     let args = count .before in
     let width = args .before in
     let version = width .before in
-    let p = version .before .before .before .before .before .before .before .pre in
+    let p = version .before .before .before .before .before .before .before .pre .0 in
     let w = width .id-bytes .ensures ∙ ap id-bytes (version .byte-or .ensures .0) in
     let done = call .blocks-lvn .ensures in (
-      blocks-put (p .0) _ _ _ _ (p .1 .0) w (args .byte-or2 .ensures .0) (count .be16 .ensures .0) done,
+      blocks-put (p .reads) _ _ _ _ (p .types) w (args .byte-or2 .ensures .0) (count .be16 .ensures .0) done,
       (
-        blocks-noted (p .0) _ _ _ _ (p .1 .0) w (args .byte-or2 .ensures .0) (count .be16 .ensures .0) done (p .1 .1 .1 .1 .1),
-        omega (arith, done [] .close, count .be16 .ensures .0, few-blocks (p .0)),
+        blocks-noted (p .reads) _ _ _ _ (p .types) w (args .byte-or2 .ensures .0) (count .be16 .ensures .0) done (p .names),
+        omega (arith, done [] .close, count .be16 .ensures .0, few-blocks (p .reads)),
       ),
     )
 

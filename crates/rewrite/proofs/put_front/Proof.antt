@@ -1,6 +1,6 @@
 use borrow.Author.Needs.{needs}
 use native.Mathlib.Omega.{arith}
-use Rattle.rewrite.proofs.Known.{few-original, names-on, few-made, made-named, made-short, front-put}
+use Rattle.rewrite.proofs.Known.{few-original, names-on, names-before, few-made, made-named, made-short, front-put}
 use Rattle.rewrite.proofs.put_front.Statement.{statement}
 use Rattle.rewrite.proofs.put_front.Tie as tie
 
@@ -56,7 +56,10 @@ returns c =
       front-put (p .0) (p .1 .0) _ _ _ _ _ (first .put-u32 .ensures) (head .put-head .ensures) (copied .copy-names .ensures .0)
           (made .put-made-names .ensures .0) (last .put-u16 .ensures) (version .byte-or .ensures .0) (args .byte-or2 .ensures .0)
           (omega (arith, names .be16 .ensures .0)) (blocks .be162 .ensures .0),
-      omega (arith, p .0 .near, copied .copy-names .ensures .1, few-made (p .0) (p .1 .0), made .put-made-names .ensures .1),
+      (
+        omega (arith, p .0 .near, copied .copy-names .ensures .1, few-made (p .0) (p .1 .0), made .put-made-names .ensures .1),
+        names-before (p .0) (copied .copy-names .ensures .0 .end) (omega (arith, made .put-made-names .ensures .0 .end)),
+      ),
     )
 
 pub put-front-spec : {M : Type 1} → statement M

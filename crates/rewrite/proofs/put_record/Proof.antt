@@ -9,20 +9,20 @@ use Rattle.rewrite.proofs.put_record.Tie as tie
 sub-put-front : tie.Need-sub-put-front
 sub-put-front c =
     let entry = c .before .before .before .before .before .before .before .before .before .before in
-    omega (arith, entry .pre .1 .1 .1 .1 .1 .1 .1 .0, four-bytes (rewriting-in (entry .args .s .now)))
+    omega (arith, entry .pre .1 .1 .1 .0, four-bytes (rewriting-in (entry .args .s .now)))
 
 put-blocks-requires : tie.Need-put-blocks-requires
 put-blocks-requires c κs =
     let front = c .before .before .before .before .before .before in
     let p = front .before .before .before .before .before .before .before .before .before .before .before .pre in
-    (p .0, (p .1 .0, (front .put-front .ensures .1, (p .1 .1 .1 .0, (p .1 .1 .1 .1 .0, p .1 .1 .1 .1 .1 .0)))))
+    (p .0, front .put-front .ensures .1 .0)
 
 returns : tie.Need-returns
 returns c =
     let blocks = c .before .before .before .before .before .before .before .before in
     let front = blocks .before .before .before .before .before .before .before in
     let p = front .before .before .before .before .before .before .before .before .before .before .before .pre in
-    parts-written _ _ _ (front .put-front .ensures .0) (blocks .put-blocks .ensures .0) (p .1 .1 .1 .1 .1 .1 .1 .0) refl
+    parts-written _ _ _ (front .put-front .ensures .0) (blocks .put-blocks .ensures .0) (p .1 .1 .1 .0) refl
 
 pub put-record-spec : {M : Type 1} → statement M
 put-record-spec =

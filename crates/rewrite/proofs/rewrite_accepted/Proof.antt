@@ -25,13 +25,12 @@ rewrite-typed-requires c κs =
     let filled = placed .before .before .before in
     let n = filled .before .before in
     let p = n .before .before .before .pre in
-    let e = n .be16 .ensures .0 in (
-      accepted-reads _ p e (filled .fill-types .ensures .0) (filled .fill-types .ensures .1),
-      (
-        types-first _ _ _ e (omega (arith, e, accepted-few _ p)) (filled .fill-types .ensures .2),
-        placed-first _ _ _ e (omega (arith, e, accepted-few _ p)) (placed .fill-places .ensures),
-      ),
-    )
+    let e = n .be16 .ensures .0 in
+    record {
+      reads = accepted-reads _ p e (filled .fill-types .ensures .0) (filled .fill-types .ensures .1);
+      types = types-first _ _ _ e (omega (arith, e, accepted-few _ p)) (filled .fill-types .ensures .2);
+      places = placed-first _ _ _ e (omega (arith, e, accepted-few _ p)) (placed .fill-places .ensures);
+    }
 
 returns : tie.Need-returns
 returns c =

@@ -1,0 +1,75 @@
+use borrow.Author.Needs.{needs}
+use Prim.Native.Nat.{_+_, _-_}
+use mathlib.Core.Path.{refl}
+use native.Mathlib.Omega.{arith}
+use Rattle.rewrite.specs.Parts.{rewriting-in}
+use Rattle.rewrite.proofs.Parts.{parts-size, parts-moved}
+use Rattle.rewrite.proofs.Known.{names-on}
+use Rattle.rewrite.proofs.put_once.Statement.{statement}
+use Rattle.rewrite.proofs.put_once.Tie as tie
+
+move-up-requires : tie.Need-move-up-requires
+move-up-requires c κs =
+    let front = c .before .before in
+    let blocks = front .before .before .before .before .before .before .before .before .before .before .before .before in
+    let entry = blocks .before .before .before .before .before .before .before .before .before .before .before .before in
+    let n = blocks .put-blocks .result .q - (entry .args .end + 2) in
+    let size = parts-size (rewriting-in (entry .args .s .now)) 0 (front .put-front .result) n (front .put-front .ensures .0 .end)
+    (omega (arith, blocks .put-blocks .ensures .0 .end)) in
+    (front .put-front .ensures .1 .1, omega (arith, size, entry .pre .1 .1, blocks .put-blocks .kept))
+
+sub-put-front : tie.Need-sub-put-front
+sub-put-front c =
+    let front = c .before .before .before .before .before .before .before in
+    let entry =
+    front .before .before .before .before .before .before .before .before .before .before .before .before
+    .before .before .before .before .before .before .before .before .before .before .before .before in
+    omega (arith, front .put-front .ensures .1 .1, names-on (entry .pre .0 .reads))
+
+put-front-requires-2 : tie.Need-put-front-requires-2
+put-front-requires-2 c κs =
+    let blocks =
+    c .before .before .before .before .before .before .before .before .before .before .before .before .before .before .before .before
+    .before .before .before in
+    let p = blocks .before .before .before .before .before .before .before .before .before .before .before .before .pre in
+    (p .0 .reads, (blocks .put-blocks .ensures .1 .0, p .1 .0))
+
+returns : tie.Need-returns
+returns c =
+    let last = c .before .before in
+    let moved = last .before .before .before .before .before in
+    let front = moved .before .before .before in
+    let blocks = front .before .before .before .before .before .before .before .before .before .before .before .before in
+    let entry = blocks .before .before .before .before .before .before .before .before .before .before .before .before in
+    let R = rewriting-in (entry .args .s .now) in
+    let n = blocks .put-blocks .result .q - (entry .args .end + 2) in
+    let b = blocks .put-blocks .ensures in
+    let f = front .put-front .ensures in (
+      parts-size R 0 (front .put-front .result) n (f .0 .end) (omega (arith, b .0 .end)),
+      (
+        b .1 .0 .many,
+        parts-moved R _ _ (b .0) (f .0 .end) (f .1 .1) (entry .pre .1 .1) (moved .move-up .ensures)
+            (last .put-front2 .ensures .0 .out) refl,
+      ),
+    )
+
+pub put-once-spec : {M : Type 1} → statement M
+put-once-spec =
+    tie.close
+    (tie.spec
+    (λ c. search needs)
+    (λ c κs. search needs)
+    (λ c. search needs)
+    (λ c. search needs)
+    (λ c κs. search needs)
+    move-up-requires
+    (λ c. search needs)
+    sub-put-front
+    (λ c. search needs)
+    put-front-requires-2
+    (λ c. search needs)
+    (λ c. search needs)
+    (λ c. search needs)
+    (λ c. search needs)
+    (λ c. search needs)
+    returns)
