@@ -21,7 +21,7 @@ use Rattle.numbering.proofs.Passes.{saves-count, block-few}
 use Rattle.emit.specs.Put.{put, Wrote}
 use Rattle.emit.proofs.Wrote.{wrote-before, wrote-last}
 use Rattle.state.specs.View.{state-of}
-use Rattle.state.specs.Room.{room}
+use Rattle.state.specs.Room.{room, Maps}
 use Rattle.state.specs.declared.LvnState.{LvnState}
 use Rattle.state.proofs.Room.{room-of, start-room}
 use Rattle.blocks.specs.declared.Turn.{Turn}
@@ -110,17 +110,19 @@ module _ (w N args : ℕ) (ty : NameIx → ℕ) (s : List ℕ) (a : Places) (h :
 
 -- ---- what the body asks; count: how many instructions it has
 pub body-asks :
-    {w N args : ℕ} {s : List ℕ} {a : Places} (st : LvnState) (count : ℕ) (hs ns hs′ : List ℕ) →
+    {w N args : ℕ} {s : List ℕ} {a : Places} (st : LvnState) (count : ℕ) (env homes hs ns hs′ : List ℕ) →
     count ≡ num-at s (a .p) 2 →
     BlocksAsk w N args a 1 hs ns →
     BlocksPass N (block-in w s (a .p) ∷ []) →
+    Maps env homes →
     length hs′ ≡ length hs →
-    state-of st hs′ ns ≡ start args (a .k) →
-    Asks w N s (record { st = st; p = a .p + 4; q = a .q + 4 }) count hs′ ns
-body-asks {w} {N} {args} {s} {a} st count hs ns hs′ c b h l e =
-    let m : num-at s (a .p) 2 ≤ 256 = size-most w N args (λ x. 0) s a h in
+    state-of env homes st hs′ ns ≡ start args (a .k) →
+    Asks w N s env homes (record { st = st; p = a .p + 4; q = a .q + 4 }) count hs′ ns
+body-asks {w} {N} {args} {s} {a} st count env homes hs ns hs′ c b h m l e =
+    let few : num-at s (a .p) 2 ≤ 256 = size-most w N args (λ x. 0) s a h in
     let k : st .made ≡ a .k = ap (λ (x : State). x .temps) e ∙ start-temps args (a .k) in
-    let r : room (state-of st [] []) ≡ 256 = room-of st [] [] hs′ ns ∙ ap room e ∙ start-room args (a .k) (b .arguments) in
+    let r : room (state-of env homes st [] []) ≡ 256 =
+    room-of env homes st [] [] hs′ ns ∙ ap room e ∙ start-room args (a .k) (b .arguments) in
     let is : block-in w s (a .p) .body ≡ instrs-from w s (a .p + 4) count =
     body-again w s (a .p) ∙ ap (instrs-from w s (a .p + 4)) (sym c) in
     record {
@@ -129,10 +131,11 @@ body-asks {w} {N} {args} {s} {a} st count hs ns hs′ c b h l e =
           record {
             names = b .names;
             made = let x : a .k + 256 * 1 ≤ 32768 = b .made in omega arith;
-            room = omega (arith, r, m, c);
+            room = omega (arith, r, few, c);
             reads = let x : a .p + 12000 * 1 < 4294960000 = b .reads in omega arith;
             writes = let x : a .q + 24000 * 1 < 4294960000 = b .writes in omega arith;
           };
+      maps = m;
       tables =
           let x : 512 ≤ length hs = b .tables .heads in
           record { heads = omega arith; nums = b .tables .nums };
@@ -159,14 +162,14 @@ head-wrote {out} {m} {out′} {q} {p} w n saves b e f c d =
     (wrote-before 4 head rest l (wrote-last (join (map (instr-bytes w) (b .body))) c) g)
 
 module _
-    {w N : ℕ} {s : List ℕ} (args count : ℕ) (ty : NameIx → ℕ) (a : Places) (r : Turn) (st : LvnState) (hs ns : List ℕ)
-    {made made′ out m : List ℕ}
+    {w N : ℕ} {s : List ℕ} (args count : ℕ) (ty : NameIx → ℕ) (a : Places) (r : Turn) (st : LvnState)
+    (env homes hs ns : List ℕ) {made made′ out m : List ℕ}
     (c : count ≡ num-at s (a .p) 2)
     (h : BlocksPass N (block-in w s (a .p) ∷ []))
-    (e : state-of st hs ns ≡ start args (a .k))
-    (d : Done w N s ty (record { st = st; p = a .p + 4; q = a .q + 4 }) r (state-of st hs ns) count made made′ out m)
+    (e : state-of env homes st hs ns ≡ start args (a .k))
+    (d : Done w N s ty (record { st = st; p = a .p + 4; q = a .q + 4 }) r (state-of env homes st hs ns) count made made′ out m)
   where
-    same : block-lvn N ty (state-of st hs ns) (instrs-from w s (a .p + 4) count) ≡ numbered-in w N args s ty a
+    same : block-lvn N ty (state-of env homes st hs ns) (instrs-from w s (a .p + 4) count) ≡ numbered-in w N args s ty a
     same = λ z. block-lvn N ty (e z) ((ap (instrs-from w s (a .p + 4)) c ∙ sym (body-again w s (a .p))) z)
 
     temps-are : r .st .made ≡ numbered-in w N args s ty a .temps

@@ -20,11 +20,12 @@ use Rattle.instrs.specs.declared.Read.{Read}
 use Rattle.instrs.specs.Again.{ReadAgain}
 use Rattle.state.specs.View.{state-of, saves-of}
 use Rattle.state.specs.Room.{room}
-use Rattle.state.proofs.Room.{Grows, instr-grows, room-of}
+use Rattle.state.proofs.Room.{Grows, instr-grows, room-of, maps-kept}
 use Rattle.step.specs.declared.Emitted.{Emitted}
 use Rattle.step.specs.View.{emitted-of}
 use Rattle.blocks.specs.declared.Turn.{Turn}
-use Rattle.blocks.specs.Block.{instrs-from, instrs-end, Passes, Passing, body-bytes, saved-by, indexes, lines, Fit, Asks, Turned, body-of, temps-of, Done}
+use Rattle.blocks.specs.Block.{instrs-from, instrs-end, Passes, Passing, body-bytes, saved-by, indexes, lines}
+use Rattle.blocks.specs.Block.{Fit, Asks, Turned, body-of, temps-of, Done}
 use Rattle.blocks.proofs.Accepted.{reads-low, instrs-more, end-more}
 use Rattle.blocks.proofs.Lines.{body-append, saved-append, emitted-noted}
 
@@ -38,13 +39,14 @@ module _ {N B left : ℕ} (ty : NameIx → ℕ) (s : State) (i : Instr) (h : Ins
   lvn-id b l = subst (λ (n : ℕ). n < b) (sym (lvn-emits .id)) l
 
 module _
-    {w N B left : ℕ} {s : List ℕ} (ty : NameIx → ℕ) (t : Turn) (g : Read) (e : Emitted) (hs ns hs′ ns′ : List ℕ)
+    {w N B left : ℕ} {s : List ℕ} (ty : NameIx → ℕ) (t : Turn) (g : Read) (e : Emitted)
+    (env homes hs ns env′ homes′ hs′ ns′ : List ℕ)
     (h : InstrOk N B left (instr-from w s (t .p)))
     (again : ReadAgain w s (t .p) g)
-    (done : emitted-of e hs′ ns′ ≡ instr-lvn N ty (state-of (t .st) hs ns) (instr-of (g .instr)))
+    (done : emitted-of env′ homes′ e hs′ ns′ ≡ instr-lvn N ty (state-of env homes (t .st) hs ns) (instr-of (g .instr)))
   where
-    emitted : emitted-of e hs′ ns′ ≡ instr-lvn N ty (state-of (t .st) hs ns) (instr-from w s (t .p))
-    emitted = done ∙ ap (instr-lvn N ty (state-of (t .st) hs ns)) (again .instr)
+    emitted : emitted-of env′ homes′ e hs′ ns′ ≡ instr-lvn N ty (state-of env homes (t .st) hs ns) (instr-from w s (t .p))
+    emitted = done ∙ ap (instr-lvn N ty (state-of env homes (t .st) hs ns)) (again .instr)
 
     pub turned :
         {made made′ out out′ : List ℕ} {q : ℕ} →
@@ -52,10 +54,10 @@ module _
         Wrote out out′ (t .q) q (body-bytes w (saves-of (e .made) (instr-of (e .instr)) ++ (instr-of (e .instr) ∷ []))) →
         q ≤ t .q + 86 →
         Turned w N s ty t (record { st = e .state; p = g .next; q = q })
-        (state-of (t .st) hs ns) (state-of (e .state) hs′ ns′) made made′ out out′
+        (state-of env homes (t .st) hs ns) (state-of env′ homes′ (e .state) hs′ ns′) made made′ out out′
     turned {made} {made′} {out} {out′} {q} m o c =
         let i = instr-from w s (t .p) in
-        let st = state-of (t .st) hs ns in
+        let st = state-of env homes (t .st) hs ns in
         let x = instr-lvn N ty st i in
         let k : e .state .made ≡ x .state .temps = ap (λ (y : EmittedAs). y .state .temps) emitted in
         let a : Wrote made made′ (t .st .made) (x .state .temps) (indexes (saved-in N (lines x))) =
@@ -175,51 +177,60 @@ fit-one {N} {s} {p} {q} n h f =
       writes = let a : q + 86 * n < 4294967000 = f .writes in omega arith;
     }
 
-module _ {w N : ℕ} {s : List ℕ} {ty : NameIx → ℕ} {t r : Turn} (n : ℕ) (hs ns hs′ ns′ : List ℕ) {made made′ out out′ : List ℕ} where
-  fit-less :
-      0 < n →
-      Passes N (instr-from w s (t .p)) →
-      Turned w N s ty t r (state-of (t .st) hs ns) (state-of (r .st) hs′ ns′) made made′ out out′ →
-      Fit N (state-of (t .st) [] []) (t .p) (t .q) n →
-      Fit N (state-of (r .st) [] []) (r .p) (r .q) (n - 1)
-  fit-less h a d f =
-      let i = instr-from w s (t .p) in
-      let st = state-of (t .st) hs ns in
-      let grows : Grows st (instr-lvn N ty st i .state) = instr-grows N ty st i (reads-low ty i (a .ok) (f .names)) in
-      let k : r .st .made ≡ instr-lvn N ty st i .state .temps = ap (λ (y : State). y .temps) (d .state) in
-      let l : room (state-of (r .st) [] []) ≡ room (instr-lvn N ty st i .state) = room-of (r .st) [] [] hs′ ns′ ∙ ap room (d .state) in
-      let m : room (state-of (t .st) [] []) ≡ room st = room-of (t .st) [] [] hs ns in
-      let b : room (instr-lvn N ty st i .state) ≤ suc (room st) = grows .room in
-      let c : instr-lvn N ty st i .state .temps ≤ suc (t .st .made) = grows .temps in
-      record {
-        names = f .names;
-        made = let x : t .st .made + n ≤ 32768 = f .made in omega (arith, k, c, x);
-        room = let x : room (state-of (t .st) [] []) + n ≤ 512 = f .room in omega (arith, l, m, b, x);
-        reads = let x : t .p + 43 * n < 4294967000 = f .reads in let y : r .p ≤ t .p + 43 = d .near in omega arith;
-        writes = let x : t .q + 86 * n < 4294967000 = f .writes in let y : r .q ≤ t .q + 86 = d .close in omega arith;
-      }
+module _
+    {w N : ℕ} {s : List ℕ} {ty : NameIx → ℕ} {t r : Turn} (n : ℕ) (env homes hs ns env′ homes′ hs′ ns′ : List ℕ)
+    {made made′ out out′ : List ℕ}
+  where
+    fit-less :
+        0 < n →
+        Passes N (instr-from w s (t .p)) →
+        Turned w N s ty t r (state-of env homes (t .st) hs ns) (state-of env′ homes′ (r .st) hs′ ns′) made made′ out out′ →
+        Fit N (state-of env homes (t .st) [] []) (t .p) (t .q) n →
+        Fit N (state-of env′ homes′ (r .st) [] []) (r .p) (r .q) (n - 1)
+    fit-less h a d f =
+        let i = instr-from w s (t .p) in
+        let st = state-of env homes (t .st) hs ns in
+        let grows : Grows st (instr-lvn N ty st i .state) = instr-grows N ty st i (reads-low ty i (a .ok) (f .names)) in
+        let k : r .st .made ≡ instr-lvn N ty st i .state .temps = ap (λ (y : State). y .temps) (d .state) in
+        let l : room (state-of env′ homes′ (r .st) [] []) ≡ room (instr-lvn N ty st i .state) =
+        room-of env′ homes′ (r .st) [] [] hs′ ns′ ∙ ap room (d .state) in
+        let m : room (state-of env homes (t .st) [] []) ≡ room st = room-of env homes (t .st) [] [] hs ns in
+        let b : room (instr-lvn N ty st i .state) ≤ suc (room st) = grows .room in
+        let c : instr-lvn N ty st i .state .temps ≤ suc (t .st .made) = grows .temps in
+        record {
+          names = f .names;
+          made = let x : t .st .made + n ≤ 32768 = f .made in omega (arith, k, c, x);
+          room = let x : room (state-of env homes (t .st) [] []) + n ≤ 512 = f .room in omega (arith, l, m, b, x);
+          reads = let x : t .p + 43 * n < 4294967000 = f .reads in let y : r .p ≤ t .p + 43 = d .near in omega arith;
+          writes = let x : t .q + 86 * n < 4294967000 = f .writes in let y : r .q ≤ t .q + 86 = d .close in omega arith;
+        }
 
-module _ {w N : ℕ} {s : List ℕ} {t : Turn} (n : ℕ) {hs ns : List ℕ} (h : 0 < n) (a : Asks w N s t n hs ns) where
-  pub asks-fit : Fit N (state-of (t .st) [] []) (t .p) (t .q) 1
-  asks-fit = fit-one n h (a .fit)
+module _
+    {w N : ℕ} {s env homes : List ℕ} {t : Turn} (n : ℕ) {hs ns : List ℕ} (h : 0 < n) (a : Asks w N s env homes t n hs ns)
+  where
+    pub asks-fit : Fit N (state-of env homes (t .st) [] []) (t .p) (t .q) 1
+    asks-fit = fit-one n h (a .fit)
 
-  pub asks-passes : Passes N (instr-from w s (t .p))
-  asks-passes = passing-more w s (t .p) n h (a .passing) .0
+    pub asks-passes : Passes N (instr-from w s (t .p))
+    asks-passes = passing-more w s (t .p) n h (a .passing) .0
 
-  pub asks-less :
-      {ty : NameIx → ℕ} {r : Turn} (hs′ ns′ : List ℕ) {made made′ out out′ : List ℕ} →
-      length hs′ ≡ length hs →
-      length ns′ ≡ length ns →
-      Turned w N s ty t r (state-of (t .st) hs ns) (state-of (r .st) hs′ ns′) made made′ out out′ →
-      Asks w N s r (n - 1) hs′ ns′
-  asks-less {r = r} hs′ ns′ e f d =
-      record {
-        width = a .width;
-        fit = fit-less n hs ns hs′ ns′ h asks-passes d (a .fit);
-        tables =
-            let x : 512 ≤ length hs = a .tables .heads in
-            let y : 512 ≤ length ns = a .tables .nums in
-            record { heads = omega arith; nums = omega arith };
-        passing =
-            subst (λ (p : ℕ). Passing N (instrs-from w s p (n - 1))) (sym (d .next)) (passing-more w s (t .p) n h (a .passing) .1);
-      }
+    pub asks-less :
+        {ty : NameIx → ℕ} {r : Turn} (env′ homes′ hs′ ns′ : List ℕ) {made made′ out out′ : List ℕ} →
+        length env′ ≡ length env →
+        length homes′ ≡ length homes →
+        length hs′ ≡ length hs →
+        length ns′ ≡ length ns →
+        Turned w N s ty t r (state-of env homes (t .st) hs ns) (state-of env′ homes′ (r .st) hs′ ns′) made made′ out out′ →
+        Asks w N s env′ homes′ r (n - 1) hs′ ns′
+    asks-less {r = r} env′ homes′ hs′ ns′ j k e f d =
+        record {
+          width = a .width;
+          fit = fit-less n env homes hs ns env′ homes′ hs′ ns′ h asks-passes d (a .fit);
+          maps = maps-kept j k (a .maps);
+          tables =
+              let x : 512 ≤ length hs = a .tables .heads in
+              let y : 512 ≤ length ns = a .tables .nums in
+              record { heads = omega arith; nums = omega arith };
+          passing =
+              subst (λ (p : ℕ). Passing N (instrs-from w s p (n - 1))) (sym (d .next)) (passing-more w s (t .p) n h (a .passing) .1);
+        }

@@ -14,7 +14,7 @@ use Rattle.numbering.specs.State.{State}
 use Rattle.numbering.specs.Number.{Emitted, instr-lvn, block-lvn, saved-in}
 use Rattle.emit.specs.Put.{Wrote, IdWidth}
 use Rattle.state.specs.View.{state-of}
-use Rattle.state.specs.Room.{room}
+use Rattle.state.specs.Room.{room, Maps}
 use Rattle.blocks.specs.declared.Turn.{Turn}
 
 -- ---- reading again
@@ -68,9 +68,10 @@ pub record Tables (hs ns : List ℕ) : Type 0 where
   pub nums : 512 ≤ length ns
 
 -- all that is asked where n instructions are left
-pub record Asks (w N : ℕ) (s : List ℕ) (t : Turn) (n : ℕ) (hs ns : List ℕ) : Type 0 where
+pub record Asks (w N : ℕ) (s env homes : List ℕ) (t : Turn) (n : ℕ) (hs ns : List ℕ) : Type 0 where
   pub width : IdWidth w
-  pub fit : Fit N (state-of (t .st) [] []) (t .p) (t .q) n
+  pub fit : Fit N (state-of env homes (t .st) [] []) (t .p) (t .q) n
+  pub maps : Maps env homes
   pub tables : Tables hs ns
   pub passing : Passing N (instrs-from w s (t .p) n)
 

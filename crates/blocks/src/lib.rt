@@ -10,6 +10,7 @@ ghost use Rattle.record.specs.View.{instr-of};
 ghost use Rattle.record.specs.Decode.{instr-from};
 ghost use Rattle.emit.specs.Put.{put, Wrote, IdWidth};
 ghost use Rattle.state.specs.View.{state-of, saves-of};
+ghost use Rattle.state.specs.Room.{Maps};
 ghost use Rattle.blocks.specs.Block.{save-before, body-bytes, saved-by, Fit, Tables, Passes, Asks, Turned, Done};
 ghost use Rattle.blocks.specs.Blocks.{block-in, blocks-in, BlocksPass, BlocksAsk, BlockDone, BlocksDone};
 use arith::One;
@@ -84,6 +85,8 @@ pub struct Turn {
 pub fn turn_once(
     s: &[u8],
     types: &[u8],
+    env: &mut [u16],
+    homes: &mut [u16],
     heads: &mut [u64],
     nums: &mut [u64],
     names: &mut [u16],
@@ -93,18 +96,19 @@ pub fn turn_once(
     t: Turn,
 ) -> Turn
     requires { ⌜
-        Fit n (state-of (t .st) [] []) (t .p) (t .q) 1 ×
-        (IdWidth w × (Tables (now heads) (now nums) × Passes n (instr-from w (now s) (t .p)))) ⌝ }
+        Fit n (state-of (now env) (now homes) (t .st) [] []) (t .p) (t .q) 1 ×
+        (IdWidth w × (Maps (now env) (now homes) × (Tables (now heads) (now nums) × Passes n (instr-from w (now s) (t .p))))) ⌝ }
     ensures { λ r. ⌜
         Turned w n (now (s .entry)) (type-in (now (types .entry))) t r
-        (state-of (t .st) (now (heads .entry)) (now (nums .entry))) (state-of (r .st) (now (heads .exit)) (now (nums .exit)))
+        (state-of (now (env .entry)) (now (homes .entry)) (t .st) (now (heads .entry)) (now (nums .entry)))
+        (state-of (now (env .exit)) (now (homes .exit)) (r .st) (now (heads .exit)) (now (nums .exit)))
         (now (names .entry)) (now (names .exit)) (now (out .entry)) (now (out .exit)) ⌝ }
 {
     let st = t.st;
     let k = st.made;
     let g = instrs::instr_at(s, t.p, w);
     let i = g.instr;
-    let e = step::instr_lvn(st, heads, nums, n, types, i);
+    let e = step::instr_lvn(st, env, homes, heads, nums, n, types, i);
     let made = e.made;
     let j = e.instr;
     note_save(names, k, j, made);
@@ -121,6 +125,8 @@ pub fn turn_once(
 pub fn body_lvn(
     s: &[u8],
     types: &[u8],
+    env: &mut [u16],
+    homes: &mut [u16],
     heads: &mut [u64],
     nums: &mut [u64],
     names: &mut [u16],
@@ -130,15 +136,16 @@ pub fn body_lvn(
     t0: Turn,
     count: usize,
 ) -> Turn
-    requires { ⌜ Asks w n (now s) t0 count (now heads) (now nums) ⌝ }
+    requires { ⌜ Asks w n (now s) (now env) (now homes) t0 count (now heads) (now nums) ⌝ }
     ensures { λ r. ⌜
-        Done w n (now (s .entry)) (type-in (now (types .entry))) t0 r (state-of (t0 .st) (now (heads .entry)) (now (nums .entry))) count
+        Done w n (now (s .entry)) (type-in (now (types .entry))) t0 r
+        (state-of (now (env .entry)) (now (homes .entry)) (t0 .st) (now (heads .entry)) (now (nums .entry))) count
         (now (names .entry)) (now (names .exit)) (now (out .entry)) (now (out .exit)) ⌝ }
 {
     let mut t = t0;
     let mut left = count;
     while left > 0 {
-        t = turn_once(s, types, heads, nums, names, out, w, n, t);
+        t = turn_once(s, types, env, homes, heads, nums, names, out, w, n, t);
         left -= 1;
     }
     t
@@ -181,10 +188,14 @@ pub fn block_lvn(
         (now (names .entry)) (now (names .exit)) (now (out .entry)) (now (out .exit)) ⌝ }
 {
     let count = fields::be16(s, a.p) as usize;
-    let st = state::start(heads, args, a.k);
+    let mut env = [65535u16; 256];
+    let mut homes = [65535u16; 512];
+    let st = state::start(&mut env, &mut homes, heads, args, a.k);
     let t = body_lvn(
         s,
         types,
+        &mut env,
+        &mut homes,
         heads,
         nums,
         names,

@@ -10,7 +10,7 @@ ghost use Rattle.numbering.specs.declared.ValNum.{ValNum};
 ghost use Rattle.numbering.specs.Simplify.{folded, fold1, fold2, is-int, is-bool, absorbs, identity};
 ghost use Rattle.numbering.specs.Simplify.{sorted, ordered, first, simplify1, simplify2};
 ghost use Rattle.numbering.specs.View.{expr-of};
-ghost use Rattle.simplify.specs.View.{known-of, constant-of, simplify-over};
+ghost use Rattle.simplify.specs.View.{known-of, constant-of};
 use arith::One;
 use arith::Two;
 use numbering::ValNum;
@@ -304,30 +304,4 @@ pub fn simplify_two(o: Two, ka: Known, kb: Known, a: ValNum, b: ValNum) -> Value
     let folded = constant(fold_two(o, ka, kb));
     let identical = identity(o, ka, kb, a, b);
     first(first(folded, identical), order(o, a, b))
-}
-
-// A value, over what is known of its first and its second operand.
-pub fn simplify(v: Value, ka: Known, kb: Known) -> Value
-    ensures { λ r. ⌜ expr-of r ≡ simplify-over (known-of ka) (known-of kb) (expr-of v) ⌝ }
-{
-    match v {
-        Value::Unique(_) => v,
-        Value::Add(a, b) => simplify_two(Two::Add, ka, kb, a, b),
-        Value::Mul(a, b) => simplify_two(Two::Mul, ka, kb, a, b),
-        Value::Sub(a, b) => simplify_two(Two::Sub, ka, kb, a, b),
-        Value::Div(a, b) => simplify_two(Two::Div, ka, kb, a, b),
-        Value::Id(a) => simplify_one(One::Id, ka, a),
-        Value::Eq(a, b) => simplify_two(Two::Eq, ka, kb, a, b),
-        Value::Lt(a, b) => simplify_two(Two::Lt, ka, kb, a, b),
-        Value::Gt(a, b) => simplify_two(Two::Gt, ka, kb, a, b),
-        Value::Le(a, b) => simplify_two(Two::Le, ka, kb, a, b),
-        Value::Ge(a, b) => simplify_two(Two::Ge, ka, kb, a, b),
-        Value::And(a, b) => simplify_two(Two::And, ka, kb, a, b),
-        Value::Or(a, b) => simplify_two(Two::Or, ka, kb, a, b),
-        Value::Not(a) => simplify_one(One::Not, ka, a),
-        Value::Bool(_) => v,
-        Value::Int(_) => v,
-        Value::IntAsFloat(_) => v,
-        Value::PtrAdd(a, b) => simplify_two(Two::PtrAdd, ka, kb, a, b),
-    }
 }

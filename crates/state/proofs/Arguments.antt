@@ -1,9 +1,9 @@
 -- The state at a block's start: nothing is numbered, then one argument after another.
-use Prim.Native.Nat.{ℕ, zero, suc, _+_, _<_, _≤_}
+use Prim.Native.Nat.{ℕ, zero, suc, _+_, _<_}
 use mathlib.Core.Path.{_≡_, refl, sym, ap, _∙_, fun-ext}
 use mathlib.Core.Logic.{_≢_}
 use mathlib.Core.Bool.{Bool, true, false, cond}
-use mathlib.Core.List.{List, [], _∷_}
+use mathlib.Core.List.{List}
 use mathlib.Core.Option.{Option, none, some}
 use native.Mathlib.Numerals.{add-one}
 use native.Mathlib.Omega.{arith}
@@ -18,7 +18,6 @@ use Rattle.record.specs.Record.{nm, NameIx-discrete}
 use Rattle.numbering.specs.declared.ValNum.{ValNum}
 use Rattle.numbering.specs.State.{vn, State, ValNum-discrete, nobody, start-env, start, new-number}
 use Rattle.values.proofs.Search.{vals-past}
-use Rattle.state.specs.declared.LvnState.{LvnState}
 use Rattle.state.specs.View.{slot, env-of, locs-of, state-of}
 use Rattle.state.proofs.Steps.{clear-view}
 
@@ -30,17 +29,20 @@ same-all (suc n) (suc i) a = same-all n i a
 none-below : {X : Type 0} (x : ℕ) (a b : X) → b ≡ cond (ltb x 0) a b
 none-below x a b = rw (le-ltb x 0 (omega arith))
 
-module _ (hs ns : List ℕ) (k : ℕ) where
-  pub none-numbered : state-of (record { env = replicate 256 65535; homes = replicate 512 65535; count = 0; made = k }) hs ns ≡ start 0 k
+module _ (env homes hs ns : List ℕ) (k : ℕ) where
+  pub none-numbered :
+      env ≡ replicate 256 65535 → homes ≡ replicate 512 65535 →
+      state-of env homes (record { count = 0; made = k }) hs ns ≡ start 0 k
   unfolding start env-of locs-of
-  none-numbered =
-      λ i. record {
+  none-numbered e h =
+      (λ i. state-of (e i) (h i) (record { count = 0; made = k }) hs ns) ∙
+      (λ i. record {
         env = fun-ext (λ x. ap slot (same-all 256 (x .0) 65535) ∙ none-below (x .0) (some (vn (x .0))) none) i;
         locs = fun-ext (λ v. ap nm (same-all 512 (v .0) 65535) ∙ none-below (v .0) (nm (v .0)) nobody) i;
         vals = fun-ext (λ v. vals-past hs ns 0 v (omega arith)) i;
         next = 0;
         temps = k;
-      }
+      })
 
 -- one more is below i + 1 than below i
 others-below : {X : Type 0} (i x : ℕ) (a b : X) → x ≢ i → cond (ltb x i) a b ≡ cond (ltb x (suc i)) a b
@@ -97,8 +99,8 @@ module _ (i k : ℕ) where
 module _ (env homes hs ns : List ℕ) (i k : ℕ) where
   pub argument :
       i < length env → i < length homes → i < length hs → i < 65535 →
-      state-of (record { env = env; homes = homes; count = i; made = k }) hs ns ≡ start i k →
-      state-of (record { env = set env i i; homes = set homes i i; count = i + 1; made = k }) (set hs i 0) ns ≡ start (i + 1) k
+      state-of env homes (record { count = i; made = k }) hs ns ≡ start i k →
+      state-of (set env i i) (set homes i i) (record { count = i + 1; made = k }) (set hs i 0) ns ≡ start (i + 1) k
   argument le lo lh b e =
-      clear-view (record { env = env; homes = homes; count = i; made = k }) hs ns (nm i) le lo (λ q. omega arith) lh ∙
+      clear-view env homes (record { count = i; made = k }) hs ns (nm i) le lo (λ q. omega arith) lh ∙
       ap (λ (s : State). new-number s (nm i) none) e ∙ start-more i k ∙ ap (λ (n : ℕ). start n k) (sym (add-one i))

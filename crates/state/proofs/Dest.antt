@@ -1,6 +1,6 @@
--- Dest takes the number of its value: the cases, and that it is what the definitions do with an instruction's dest.
+-- Dest takes the number of its value: the cases, and that the number is not 65535.
 use Prim.Native.Nat.{ℕ, zero, suc, _+_, _<_, _≤_}
-use mathlib.Core.Path.{_≡_, refl, sym, ap, _∙_}
+use mathlib.Core.Path.{_≡_, refl, ap, _∙_}
 use mathlib.Core.Logic.{_≢_}
 use mathlib.Core.Bool.{Bool, true, false, cond}
 use mathlib.Core.Option.{Option, none, some}
@@ -8,10 +8,9 @@ use native.Mathlib.Omega.{arith}
 use Rattle.arith.specs.declared.One.the-variants.{Not, Id}
 use Rattle.arith.specs.Operation.{Expr, constant, one, two}
 use Rattle.record.specs.declared.NameIx.{NameIx}
-use Rattle.record.specs.Record.{Instr}
 use Rattle.numbering.specs.declared.ValNum.{ValNum}
 use Rattle.numbering.specs.State.{vn, State, new-number, update-env}
-use Rattle.numbering.specs.Number.{Saved, same-expr, find, get-val-num, handle-overwrite, val-to-instr, number-dest, place}
+use Rattle.numbering.specs.Number.{same-expr, find, get-val-num}
 use Rattle.values.specs.Table.{val-num-of}
 use Rattle.state.specs.View.{settled, settled-at}
 
@@ -25,20 +24,6 @@ module _ (s : State) (x : NameIx) where
   unfolding settled settled-at
   settled-new none p = refl
   settled-new (some e) p = ap (settled-at s x e) p
-
--- the state behind an instruction with a dest
-pub place-state :
-    (N : ℕ) (s : State) (i : Instr) (e : Option (Expr ValNum)) →
-    place N s i e .state ≡ settled (handle-overwrite N s i e .state) (i .dest) e
-unfolding place settled settled-at number-dest
-place-state N s i none = refl
-place-state N s i (some e) = by (handle-overwrite N s i (some e)) (get-val-num (handle-overwrite N s i (some e) .state) e)
-  where
-    by :
-        (q : Saved) (o : Option ValNum) →
-        number-dest q i e (val-to-instr s i e) o .state ≡ settled-at (q .state) (i .dest) e o
-    by q none = refl
-    by q (some v) = refl
 
 -- ---- a number that is found is below the next one
 found-below :

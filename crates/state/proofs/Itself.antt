@@ -1,6 +1,6 @@
 -- Whether a value's instruction is `x = id x`: only that of an id can be.
 use Prim.Native.Nat.{ℕ}
-use mathlib.Core.Path.{_≡_, refl, sym, ap, _∙_}
+use mathlib.Core.Path.{_≡_, refl, sym, ap}
 use mathlib.Core.Bool.{Bool, true, false, not}
 use mathlib.Core.List.{List, [], _∷_}
 use types.Run.{OneOf, miss}
@@ -9,7 +9,8 @@ use lib.Dec.{eqb}
 use Rattle.record.specs.declared.NameIx.{NameIx}
 use Rattle.numbering.specs.declared.ValNum.{ValNum}
 use Rattle.numbering.specs.declared.Value.{Value}
-use Rattle.numbering.specs.declared.Value.the-variants.{Unique, Add, Mul, Sub, Div, Id, Eq, Lt, Gt, Le, Ge, And, Or, Not, Bool as Truth, Int, IntAsFloat, PtrAdd}
+use Rattle.numbering.specs.declared.Value.the-variants.{Unique, Add, Mul, Sub, Div, Id, Eq, Lt, Gt, Le, Ge, And, Or, Not}
+use Rattle.numbering.specs.declared.Value.the-variants.{Bool as Truth, Int, IntAsFloat, PtrAdd}
 use Rattle.numbering.specs.View.{expr-of}
 use Rattle.numbering.proofs.Value as value-type
 use Rattle.state.specs.View.{itself}

@@ -6,4 +6,3 @@ pub mod Itself
 pub mod Room
 pub mod Seen
 pub mod Dest
-pub mod Operands

@@ -1,12 +1,10 @@
 -- Room: seeing keeps it, an instruction takes at most one number more, and a block starts with 256.
-use Prim.Native.Nat.{ℕ, zero, suc, _+_, _-_, _<_, _≤_}
+use Prim.Native.Nat.{ℕ, zero, suc, _+_, _<_, _≤_}
 use mathlib.Core.Path.{_≡_, refl, sym, ap, _∙_, subst}
-use mathlib.Core.Logic.{_≢_}
-use mathlib.Core.Bool.{Bool, true, false, cond}
 use mathlib.Core.List.{List, [], _∷_}
 use mathlib.Core.Option.{Option, none, some}
 use native.Mathlib.Omega.{arith}
-use lib.Dec.{ltb}
+use lib.ListN.{length}
 use borrow.Author.Tests.{le-ltb}
 use Rattle.arith.specs.declared.One.the-variants.{Not, Id}
 use Rattle.arith.specs.Map.{pick, upd}
@@ -35,17 +33,24 @@ use Rattle.numbering.specs.Number.{
 }
 use Rattle.state.specs.declared.LvnState.{LvnState}
 use Rattle.state.specs.View.{state-of}
-use Rattle.state.specs.Room.{Low, gap, free, room}
+use Rattle.state.specs.Room.{Low, free, room, Maps}
 use Rattle.state.proofs.Arguments.{start-more}
 
 pub next-room : (s : State) → s .next ≤ room s
 unfolding room
 next-room s = omega arith
 
+-- maps that keep their lengths keep their places
+pub maps-kept :
+    {env homes env′ homes′ : List ℕ} → length env′ ≡ length env → length homes′ ≡ length homes → Maps env homes → Maps env′ homes′
+maps-kept e h m = record { names = e ∙ m .names; numbers = h ∙ m .numbers }
+
 -- the table takes no part
-pub room-of : (s : LvnState) (hs ns ks ms : List ℕ) → room (state-of s hs ns) ≡ room (state-of s ks ms)
+pub room-of :
+    (env homes : List ℕ) (s : LvnState) (hs ns ks ms : List ℕ) →
+    room (state-of env homes s hs ns) ≡ room (state-of env homes s ks ms)
 unfolding room
-room-of s hs ns ks ms = refl
+room-of env homes s hs ns ks ms = refl
 
 module _ (f : NameIx → Option ValNum) (x : NameIx) (v : ValNum) where
   above : (m : ℕ) → m ≤ x .0 → free m (upd NameIx-discrete f x (some v)) ≡ free m f
@@ -93,28 +98,13 @@ module _ (f : NameIx → Option ValNum) (x : NameIx) (v : ValNum) where
           rw a (omega arith)
 
 -- ---- seeing
--- where a name has no number there is room for the next one
-pub unseen-next : (s : State) (x : NameIx) → x .0 < 256 → s .env x ≡ none → s .next < room s
-unfolding room
-unseen-next s x h e =
-    let k : suc (free 256 (upd NameIx-discrete (s .env) x (some (vn 0)))) ≡ free 256 (s .env) = fewer (s .env) x (vn 0) 256 h e in
-    omega arith
-
--- and giving it keeps the room
+-- giving a number to a name that has none keeps the room
 unseen-room : (s : State) (x : NameIx) (e : Option (Expr ValNum)) → x .0 < 256 → s .env x ≡ none → room (new-number s x e) ≡ room s
 unfolding new-number room
 unseen-room s x e h n =
     let k : suc (free 256 (upd NameIx-discrete (s .env) x (some (vn (s .next))))) ≡ free 256 (s .env) =
     fewer (s .env) x (vn (s .next)) 256 h n in
     omega arith
-
-pub see-next : (s : State) (x : NameIx) → see s x .next ≤ suc (s .next)
-unfolding see new-number
-see-next s x = by (s .env x)
-  where
-    by : (o : Option ValNum) → see-at s x o .next ≤ suc (s .next)
-    by none = omega arith
-    by (some v) = omega arith
 
 pub see-room : (s : State) (x : NameIx) → x .0 < 256 → room (see s x) ≡ room s
 unfolding see

@@ -1,8 +1,7 @@
 -- The arguments of an instruction seen one after another, as a loop over them has it.
-use Prim.Native.Nat.{ℕ, zero, suc, _+_, _-_, _<_, _≤_}
+use Prim.Native.Nat.{ℕ, suc, _+_, _-_, _<_, _≤_}
 use mathlib.Core.Path.{_≡_, refl, sym, ap, _∙_, subst}
 use mathlib.Core.List.{List, [], _∷_, _++_, map}
-use mathlib.Core.Option.{none}
 use native.Mathlib.Omega.{arith}
 use native.Mathlib.Numerals.{add-one}
 use lib.ListN.{length, getD, set, take, drop}
@@ -11,10 +10,9 @@ use Rattle.record.specs.declared.NameIx.{NameIx}
 use Rattle.record.specs.Record.{nm}
 use Rattle.numbering.specs.State.{State, see, gen-new-vals}
 use Rattle.state.specs.declared.LvnState.{LvnState}
-use Rattle.state.specs.View.{env-of, state-of, names-in}
+use Rattle.state.specs.View.{state-of, names-in}
 use Rattle.state.specs.Room.{Low, room}
-use Rattle.state.proofs.Views.{env-none}
-use Rattle.state.proofs.Room.{unseen-next, see-room, room-of}
+use Rattle.state.proofs.Room.{see-room, room-of}
 
 left-step : (n i : ℕ) → i < n → n - i ≡ suc (n - (i + 1))
 left-step n i h = omega arith
@@ -42,15 +40,12 @@ unfolding gen-new-vals
 seen-all s l n i h = let z : n - i ≡ 0 = omega arith in rw z
 
 -- the room of a state that has seen x
-module _ (s t : LvnState) (hs ks : List ℕ) (x : NameIx) where
-  pub seen-room : x .0 < 256 → state-of t ks [] ≡ see (state-of s hs []) x → room (state-of t [] []) ≡ room (state-of s [] [])
-  seen-room h e = room-of t [] [] ks [] ∙ ap room e ∙ see-room (state-of s hs []) x h ∙ room-of s hs [] [] []
-
--- a name without a number finds the next one free
-pub next-free :
-    (s : LvnState) (x : NameIx) → x .0 < 256 → length (s .env) ≡ 256 → getD (s .env) (x .0) 0 ≡ 65535 →
-    s .count < room (state-of s [] [])
-next-free s x h k e = unseen-next (state-of s [] []) x h (env-none (s .env) x (omega arith) e)
+module _ (env homes env′ homes′ : List ℕ) (s t : LvnState) (hs ks : List ℕ) (x : NameIx) where
+  pub seen-room :
+      x .0 < 256 → state-of env′ homes′ t ks [] ≡ see (state-of env homes s hs []) x →
+      room (state-of env′ homes′ t [] []) ≡ room (state-of env homes s [] [])
+  seen-room h e =
+      room-of env′ homes′ t [] [] ks [] ∙ ap room e ∙ see-room (state-of env homes s hs []) x h ∙ room-of env homes s hs [] [] []
 
 -- ---- arguments replaced
 map-last : {X Y : Type 0} (f : X → Y) (l : List X) (x : X) → map f (l ++ (x ∷ [])) ≡ map f l ++ (f x ∷ [])

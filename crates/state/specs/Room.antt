@@ -1,7 +1,10 @@
 -- The numbers that a block can still need: the next number, and one for each name that has none. 512 suffice for 256 instructions.
+-- And the room that the maps have.
 use Prim.Native.Nat.{ℕ, zero, suc, _+_, _<_}
+use mathlib.Core.Path.{_≡_}
 use mathlib.Core.List.{List, [], _∷_}
 use mathlib.Core.Option.{Option, none, some}
+use lib.ListN.{length}
 use Rattle.record.specs.declared.NameIx.{NameIx}
 use Rattle.record.specs.Record.{nm}
 use Rattle.numbering.specs.declared.ValNum.{ValNum}
@@ -23,3 +26,8 @@ free (suc m) f = gap (f (nm m)) + free m f
 
 unfoldable pub room : State → ℕ
 room s = s .next + free 256 (s .env)
+
+-- the maps have a place for every name of a record and for every number
+pub record Maps (env homes : List ℕ) : Type 0 where
+  pub names : length env ≡ 256
+  pub numbers : length homes ≡ 512

@@ -1,4 +1,4 @@
--- The numbering state of the code, with the table that is lent beside it, as the state of the definitions.
+-- The numbering state of the code, with the maps and the table that are lent beside it, as the state of the definitions.
 use Prim.Native.Nat.{ℕ}
 use mathlib.Core.Bool.{Bool, false, cond}
 use mathlib.Core.List.{List, [], _∷_, map}
@@ -28,12 +28,12 @@ env-of l x = slot (getD l (x .0) 65535)
 unfoldable pub locs-of : List ℕ → ValNum → NameIx
 locs-of l v = nm (getD l (v .0) 65535)
 
--- hs, ns: the heads and constants of the table
-abbrev pub state-of : LvnState → List ℕ → List ℕ → State
-state-of s hs ns =
+-- env, homes: the maps; hs, ns: the heads and constants of the table
+abbrev pub state-of : List ℕ → List ℕ → LvnState → List ℕ → List ℕ → State
+state-of env homes s hs ns =
     record {
-      env = env-of (s .env);
-      locs = locs-of (s .homes);
+      env = env-of env;
+      locs = locs-of homes;
       vals = vals-of hs ns (s .count);
       next = s .count;
       temps = s .made;
@@ -51,8 +51,8 @@ saves-of made i =
     []
     (record { id = i .id; code = code1 Id; dest = made; lit = no-lit; args = i .dest ∷ []; callee = 0; blocks = [] } ∷ [])
 
-abbrev pub saved-of : Saved → List ℕ → List ℕ → Instr → SavedAs
-saved-of r hs ns i = record { state = state-of (r .state) hs ns; saves = saves-of (r .made) i }
+abbrev pub saved-of : List ℕ → List ℕ → Saved → List ℕ → List ℕ → Instr → SavedAs
+saved-of env homes r hs ns i = record { state = state-of env homes (r .state) hs ns; saves = saves-of (r .made) i }
 
 -- whether a value's instruction reads exactly `x = id x`
 unfoldable pub itself : (ValNum → NameIx) → NameIx → Option (Expr ValNum) → Bool

@@ -1,4 +1,3 @@
 pub mod Forms
 pub mod Values
 pub mod Placed
-pub mod Fit

@@ -158,17 +158,17 @@ settled-next s x (some e) = settled-at-next s x e (get-val-num s e)
 
 -- seeing arguments asks for no more room
 pub seen-next :
-    (s : LvnState) (hs ns : List ℕ) (xs : List NameIx) (t : State) →
-    t ≡ gen-new-vals (state-of s hs ns) xs →
+    (env homes : List ℕ) (s : LvnState) (hs ns : List ℕ) (xs : List NameIx) (t : State) →
+    t ≡ gen-new-vals (state-of env homes s hs ns) xs →
     Low xs →
-    room (state-of s [] []) ≤ 511 →
+    room (state-of env homes s [] []) ≤ 511 →
     t .next ≤ 511
-seen-next s hs ns xs t e low h =
-    let g = gen-new-vals (state-of s hs ns) xs in
+seen-next env homes s hs ns xs t e low h =
+    let g = gen-new-vals (state-of env homes s hs ns) xs in
     let n : t .next ≡ g .next = ap (λ (u : State). u .next) e in
     let a : g .next ≤ room g = next-room g in
-    let b : room g ≡ room (state-of s hs ns) = gen-room (state-of s hs ns) xs low in
-    let c : room (state-of s hs ns) ≡ room (state-of s [] []) = room-of s hs ns [] [] in
+    let b : room g ≡ room (state-of env homes s hs ns) = gen-room (state-of env homes s hs ns) xs low in
+    let c : room (state-of env homes s hs ns) ≡ room (state-of env homes s [] []) = room-of env homes s hs ns [] [] in
     omega arith
 
 pub seen-temps : (s : State) (xs : List NameIx) (t : State) → t ≡ gen-new-vals s xs → t .temps ≡ s .temps

@@ -29,10 +29,9 @@ use Rattle.record.proofs.Literal as Literals
 use Rattle.record.proofs.Op as Ops
 use Rattle.numbering.specs.declared.ValNum.{ValNum}
 use Rattle.numbering.specs.State.{vn, State, number-of, home-of, known-expr, known}
-use Rattle.numbering.specs.Simplify.{simplify}
+use Rattle.numbering.specs.Simplify.{simplify1, simplify2, simplify}
 use Rattle.numbering.specs.Number.{numbered, make-val}
 use Rattle.numbering.proofs.Simplified.{Closed, OptionOk, MaybeOk, simplify-ok}
-use Rattle.simplify.specs.View.{simplify-over, simplify-over-value}
 use Rattle.values.specs.Table.{vals-of}
 use Rattle.state.specs.View.{env-of, locs-of}
 use Rattle.step.specs.View.{Ready, Reads, form-as, value-by, Any}
@@ -113,27 +112,32 @@ abbrev pub reading : List ℕ → List ℕ → List ℕ → ℕ → State
 reading env hs ns count = record { env = env-of env; locs = λ v. nm 0; vals = vals-of hs ns count; next = 0; temps = 0 }
 
 -- ---- operators
-module _ (s : State) (p q : Option Val) {v r : Option (Expr ValNum)} (given : r ≡ simplify-over p q v) where
-  module _ (o : One) (x : NameIx) {a : ValNum} (number : a ≡ number-of s x) (formed : v ≡ some (one o a)) (fact : p ≡ known s a) where
-    one-simplified : r ≡ some (simplify (known s) (one o a))
-    one-simplified = given ∙ simplify-over-value (known s) p q formed fact
+module _ (s : State) {r : Option (Expr ValNum)} where
+  module _
+      (o : One) (x : NameIx) {p : Option Val} {a : ValNum}
+      (given : r ≡ some (simplify1 o p a)) (number : a ≡ number-of s x) (fact : p ≡ known s a)
+    where
+      one-simplified : r ≡ some (simplify (known s) (one o a))
+      unfolding simplify
+      one-simplified = given ∙ ap (λ (k : Option Val). some (simplify1 o k a)) fact
 
-    pub one-value : r ≡ make-val s (one o x)
-    unfolding make-val
-    one-value = one-simplified ∙ ap (λ (n : ValNum). some (simplify (known s) (one o n))) number
+      pub one-value : r ≡ make-val s (one o x)
+      unfolding make-val
+      one-value = one-simplified ∙ ap (λ (n : ValNum). some (simplify (known s) (one o n))) number
 
-    pub one-ok : (n : ℕ) → a .0 < n → MaybeOk Any n r
-    one-ok n h =
-        subst (MaybeOk Any n) (sym one-simplified)
-        (simplify-ok Any any-closed n (known s) (λ u. any-known (known s u)) (one o a) h)
+      pub one-ok : (n : ℕ) → a .0 < n → MaybeOk Any n r
+      one-ok n h =
+          subst (MaybeOk Any n) (sym one-simplified)
+          (simplify-ok Any any-closed n (known s) (λ u. any-known (known s u)) (one o a) h)
 
   module _
-      (o : Two) (x y : NameIx) {a b : ValNum}
+      (o : Two) (x y : NameIx) {p q : Option Val} {a b : ValNum}
+      (given : r ≡ some (simplify2 o p q a b))
       (first : a ≡ number-of s x) (second : b ≡ number-of s y)
-      (formed : v ≡ some (two o a b))
       (left : p ≡ known s a) (right : q ≡ known s b) where
     two-simplified : r ≡ some (simplify (known s) (two o a b))
-    two-simplified = given ∙ simplify-over-value (known s) p q formed (left, right)
+    unfolding simplify
+    two-simplified = given ∙ (λ i. some (simplify2 o (left i) (right i) a b))
 
     pub two-value : r ≡ make-val s (two o x y)
     unfolding make-val

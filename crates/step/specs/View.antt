@@ -108,7 +108,11 @@ has-dest Ret = false
 abbrev pub by-op : ℕ → State → Instr → Op → Option (Expr ValNum) → EmittedAs
 by-op N s i o e = cond (has-dest o) (place N s i e) (unchanged s i)
 
--- hs, ns: the heads and constants of the table
-abbrev pub emitted-of : Emitted → List ℕ → List ℕ → EmittedAs
-emitted-of r hs ns =
-    record { state = state-of (r .state) hs ns; saves = saves-of (r .made) (instr-of (r .instr)); instr = instr-of (r .instr) }
+-- env, homes: the maps beside the state; hs, ns: the heads and constants of the table
+abbrev pub emitted-of : List ℕ → List ℕ → Emitted → List ℕ → List ℕ → EmittedAs
+emitted-of env homes r hs ns =
+    record {
+      state = state-of env homes (r .state) hs ns;
+      saves = saves-of (r .made) (instr-of (r .instr));
+      instr = instr-of (r .instr);
+    }

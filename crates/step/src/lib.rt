@@ -18,7 +18,7 @@ ghost use Rattle.numbering.proofs.Simplified.{MaybeOk};
 ghost use Rattle.simplify.specs.View.{known-of};
 ghost use Rattle.values.specs.Table.{numbered-of, vals-of};
 ghost use Rattle.state.specs.View.{env-of, locs-of, state-of, names-in};
-ghost use Rattle.state.specs.Room.{room};
+ghost use Rattle.state.specs.Room.{room, Maps};
 ghost use Rattle.step.specs.View.{Ready, Reads, has-dest, value-by, Any, const-as, written-as, chosen, by-op, emitted-of};
 use arith::One;
 use arith::Two;
@@ -78,8 +78,7 @@ pub fn value_one(env: &[u16], heads: &[u64], nums: &[u64], count: u16, o: One, x
 {
     let a = state::number_in(env, x);
     let ka = values::known_at(heads, nums, count, a);
-    let v = simplify::form_one(o, a);
-    simplify::simplify(v, ka, Known::Nothing)
+    simplify::simplify_one(o, ka, a)
 }
 
 // Of an operator of two arguments.
@@ -102,8 +101,7 @@ pub fn value_two(
     let b = state::number_in(env, y);
     let ka = values::known_at(heads, nums, count, a);
     let kb = values::known_at(heads, nums, count, b);
-    let v = simplify::form_two(o, a, b);
-    simplify::simplify(v, ka, kb)
+    simplify::simplify_two(o, ka, kb, a, b)
 }
 
 // Of an instruction whose dest has the type t, simplified; one that has no dest, or a new value each time, has Unique.
@@ -146,7 +144,7 @@ pub fn make_val(
 // ---- what is written
 
 // The first n of these names replaced by the homes of their numbers.
-pub fn replace_args<'a>(env: &'a [u16], homes: &'a [u16], args: [u16; 8], n: u8) -> [u16; 8]
+pub fn replace_args(env: &[u16], homes: &[u16], args: [u16; 8], n: u8) -> [u16; 8]
     requires { ⌜ n ≤ 8 ⌝ }
     ensures { λ r. ⌜
         ((s : State) → s .env ≡ env-of (now (env .entry)) → s .locs ≡ locs-of (now (homes .entry)) →
@@ -165,7 +163,7 @@ pub fn replace_args<'a>(env: &'a [u16], homes: &'a [u16], args: [u16; 8], n: u8)
 }
 
 // "replace arguments by their numbers' homes".
-pub fn rewrite_instr<'a>(env: &'a [u16], homes: &'a [u16], i: Instruction) -> Instruction
+pub fn rewrite_instr(env: &[u16], homes: &[u16], i: Instruction) -> Instruction
     requires { ⌜ i .count ≤ 8 ⌝ }
     ensures { λ r. ⌜
         ((s : State) → s .env ≡ env-of (now (env .entry)) → s .locs ≡ locs-of (now (homes .entry)) →
@@ -316,6 +314,8 @@ pub fn choose(
 // An instruction with a dest, whose arguments are replaced and whose value is v: the save that it owes, then dest takes v's number.
 pub fn place(
     st: LvnState,
+    env: &mut [u16],
+    homes: &mut [u16],
     heads: &mut [u64],
     nums: &mut [u64],
     n: u16,
@@ -324,23 +324,23 @@ pub fn place(
 ) -> Emitted
     requires { ⌜
         (i .count ≤ 8) × ((i .dest .0 < 256) × ((st .count < 512) × ((n + st .made < 65535) ×
-        ((512 ≤ length (now heads)) × ((512 ≤ length (now nums)) × MaybeOk Any 65535 (expr-of v)))))) ⌝ }
+        (Maps (now env) (now homes) × ((512 ≤ length (now heads)) × ((512 ≤ length (now nums)) × MaybeOk Any 65535 (expr-of v))))))) ⌝ }
     ensures { λ r. ⌜
-        (emitted-of r (now (heads .exit)) (now (nums .exit)) ≡
-        place n (state-of st (now (heads .entry)) (now (nums .entry))) (instr-of i) (expr-of v)) ×
+        (emitted-of (now (env .exit)) (now (homes .exit)) r (now (heads .exit)) (now (nums .exit)) ≡
+        place n (state-of (now (env .entry)) (now (homes .entry)) st (now (heads .entry)) (now (nums .entry))) (instr-of i) (expr-of v)) ×
         (r .instr .count ≤ 8) ⌝ }
 {
     let dest = i.dest;
-    let w = val_to_instr(&st.homes, i, v);
-    let saved = st.handle_overwrite(n, dest, v);
+    let w = val_to_instr(homes, i, v);
+    let saved = st.handle_overwrite(env, homes, n, dest, v);
     let made = saved.made;
-    let settled = saved.state.number_dest(heads, nums, dest, v);
+    let settled = saved.state.number_dest(env, homes, heads, nums, dest, v);
     let s = settled.state;
     let number = settled.number;
     Emitted {
         state: s,
         made: made,
-        instr: choose(number, &s.homes, heads, nums, s.count, i, w),
+        instr: choose(number, homes, heads, nums, s.count, i, w),
     }
 }
 
@@ -348,7 +348,7 @@ pub fn place(
 pub fn unchanged(st: LvnState, i: Instruction) -> Emitted
     requires { ⌜ i .count ≤ 8 ⌝ }
     ensures { λ r. ⌜
-        ((hs ns : List ℕ) → emitted-of r hs ns ≡ unchanged (state-of st hs ns) (instr-of i)) ×
+        ((env homes hs ns : List ℕ) → emitted-of env homes r hs ns ≡ unchanged (state-of env homes st hs ns) (instr-of i)) ×
         (r .instr .count ≤ 8) ⌝ }
 {
     Emitted {
@@ -375,6 +375,8 @@ pub fn has_dest(op: Op) -> bool
 pub fn emit(
     op: Op,
     st: LvnState,
+    env: &mut [u16],
+    homes: &mut [u16],
     heads: &mut [u64],
     nums: &mut [u64],
     n: u16,
@@ -383,14 +385,15 @@ pub fn emit(
 ) -> Emitted
     requires { ⌜
         (i .count ≤ 8) × ((i .dest .0 < 256) × ((st .count < 512) × ((n + st .made < 65535) ×
-        ((512 ≤ length (now heads)) × ((512 ≤ length (now nums)) × MaybeOk Any 65535 (expr-of v)))))) ⌝ }
+        (Maps (now env) (now homes) × ((512 ≤ length (now heads)) × ((512 ≤ length (now nums)) × MaybeOk Any 65535 (expr-of v))))))) ⌝ }
     ensures { λ r. ⌜
-        (emitted-of r (now (heads .exit)) (now (nums .exit)) ≡
-        by-op n (state-of st (now (heads .entry)) (now (nums .entry))) (instr-of i) op (expr-of v)) ×
+        (emitted-of (now (env .exit)) (now (homes .exit)) r (now (heads .exit)) (now (nums .exit)) ≡
+        by-op n (state-of (now (env .entry)) (now (homes .entry)) st (now (heads .entry)) (now (nums .entry)))
+        (instr-of i) op (expr-of v)) ×
         (r .instr .count ≤ 8) ⌝ }
 {
     if has_dest(op) {
-        place(st, heads, nums, n, i, v)
+        place(st, env, homes, heads, nums, n, i, v)
     } else {
         unchanged(st, i)
     }
@@ -410,6 +413,8 @@ pub fn type_of(types: &[u8], x: NameIx) -> u8
 // One instruction of a block. n: how many names the input has; types: their types.
 pub fn instr_lvn(
     st: LvnState,
+    env: &mut [u16],
+    homes: &mut [u16],
     heads: &mut [u64],
     nums: &mut [u64],
     n: u16,
@@ -417,19 +422,20 @@ pub fn instr_lvn(
     i: Instruction,
 ) -> Emitted
     requires { ⌜
-        Ready i × ((room (state-of st [] []) ≤ 511) × ((n + st .made < 65535) ×
-        ((512 ≤ length (now heads)) × (512 ≤ length (now nums))))) ⌝ }
+        Ready i × ((room (state-of (now env) (now homes) st [] []) ≤ 511) × ((n + st .made < 65535) ×
+        (Maps (now env) (now homes) × ((512 ≤ length (now heads)) × (512 ≤ length (now nums)))))) ⌝ }
     ensures { λ r. ⌜
-        (emitted-of r (now (heads .exit)) (now (nums .exit)) ≡
-        instr-lvn n (type-in (now (types .entry))) (state-of st (now (heads .entry)) (now (nums .entry))) (instr-of i)) ×
+        (emitted-of (now (env .exit)) (now (homes .exit)) r (now (heads .exit)) (now (nums .exit)) ≡
+        instr-lvn n (type-in (now (types .entry)))
+        (state-of (now (env .entry)) (now (homes .entry)) st (now (heads .entry)) (now (nums .entry))) (instr-of i)) ×
         (r .instr .count ≤ 8) ⌝ }
 {
     let dest = i.dest;
     let args = i.args;
     let op = i.op;
     let t = type_of(types, dest);
-    let s = st.gen_new_vals(heads, args, i.count);
-    let v = make_val(&s.env, heads, nums, s.count, i, t);
-    let j = rewrite_instr(&s.env, &s.homes, i);
-    emit(op, s, heads, nums, n, j, v)
+    let s = st.gen_new_vals(env, homes, heads, args, i.count);
+    let v = make_val(env, heads, nums, s.count, i, t);
+    let j = rewrite_instr(env, homes, i);
+    emit(op, s, env, homes, heads, nums, n, j, v)
 }

@@ -1,4 +1,5 @@
 pub mod Entries
 pub mod Arms
 pub mod Search
+pub mod Held
 pub mod Numbers

@@ -1,6 +1,6 @@
 -- The lent table of numbered values: of each number a head, which holds the operator and the operands, and a constant.
-use Prim.Native.Nat.{ℕ, _+_, _*_, _/_, _%_}
-use mathlib.Core.Bool.{Bool, cond, _&&_}
+use Prim.Native.Nat.{ℕ, zero, suc, _+_, _*_, _/_, _%_}
+use mathlib.Core.Bool.{Bool, false, cond, _&&_, _||_}
 use mathlib.Core.List.{List}
 use mathlib.Core.Option.{Option, none, some}
 use lib.Dec.{eqb, ltb}
@@ -69,6 +69,11 @@ expr-at h n = exactly h n (unpacked (h / 0x1_0000_0000) (vn (h / 0x1_0000 % 0x1_
 -- entries from count on are not seen, so the table needs no clearing between blocks
 unfoldable pub vals-of : List ℕ → List ℕ → ℕ → ValNum → Option (Expr ValNum)
 vals-of hs ns count v = cond (ltb (v .0) count) (expr-at (getD hs (v .0) 0) (getD ns (v .0) 0)) none
+
+-- whether x is one of the n numbers from i on
+unfoldable pub holds : List ℕ → ℕ → ℕ → ℕ → Bool
+holds l x i zero = false
+holds l x i (suc n) = eqb (getD l i 0) x || holds l x (i + 1) n
 
 -- ---- answers
 abbrev pub numbered-of : Numbered → Option ValNum

@@ -10,7 +10,7 @@ ghost use Rattle.numbering.specs.State.{State, known-expr};
 ghost use Rattle.numbering.specs.Number.{find};
 ghost use Rattle.numbering.specs.View.{expr-of};
 ghost use Rattle.simplify.specs.View.{known-of};
-ghost use Rattle.values.specs.Table.{packed, expr-at, vals-of, numbered-of, val-num-of};
+ghost use Rattle.values.specs.Table.{packed, expr-at, vals-of, holds, numbered-of, val-num-of};
 use numbering::ValNum;
 use numbering::Value;
 use simplify::Known;
@@ -122,6 +122,38 @@ pub fn find(heads: &[u64], nums: &[u64], count: u16, head: u64, num: u64) -> Num
     Numbered::Unseen
 }
 
+// Whether x is one of the first count numbers. The loop has no other end, so that several are compared at once.
+pub fn holds(l: &[u64], count: u16, x: u64) -> bool
+    requires { ⌜ count ≤ length (now l) ⌝ }
+    ensures { λ r. ⌜ r ≡ holds (now (l .entry)) x 0 count ⌝ }
+{
+    let n = count as usize;
+    let mut hit = false;
+    let mut i: usize = 0;
+    while i < n {
+        hit = hit | (l[i] == x);
+        i += 1;
+    }
+    hit
+}
+
+// The first of the numbers below count that has this entry; none, where its head, or its constant, stands nowhere.
+pub fn look_up(heads: &[u64], nums: &[u64], count: u16, e: Entry) -> Numbered
+    requires { ⌜ (count ≤ length (now heads)) × (count ≤ length (now nums)) ⌝ }
+    ensures { λ r. ⌜
+        ((x : Expr ValNum) → expr-at (e .head) (e .num) ≡ some x →
+        numbered-of r ≡ find (vals-of (now (heads .entry)) (now (nums .entry)) count) x 0 count) ⌝ }
+{
+    if e.num == 0 {
+        if !holds(heads, count, e.head) {
+            return Numbered::Unseen;
+        }
+    } else if !holds(nums, count, e.num) {
+        return Numbered::Unseen;
+    }
+    find(heads, nums, count, e.head, e.num)
+}
+
 // The number of a value among those below count: an id's is its operand's, and one that is new each time has none.
 pub fn get_val_num(heads: &[u64], nums: &[u64], count: u16, v: Value) -> Numbered
     requires { ⌜ (count ≤ length (now heads)) × (count ≤ length (now nums)) ⌝ }
@@ -134,7 +166,7 @@ pub fn get_val_num(heads: &[u64], nums: &[u64], count: u16, v: Value) -> Numbere
         Value::Id(a) => Numbered::Is(a),
         _ => {
             let e = entry_of(v);
-            find(heads, nums, count, e.head, e.num)
+            look_up(heads, nums, count, e)
         }
     }
 }

@@ -1,4 +1,6 @@
 -- `blocks::body_lvn` meets its contract: what is left from here gives the whole.
+use Prim.Native.Nat.{ℕ}
+use mathlib.Core.List.{List}
 use mathlib.Core.Path.{_≡_, refl, _∙_}
 use native.Mathlib.Omega.{arith}
 use lib.ListN.{length}
@@ -10,57 +12,75 @@ use Rattle.blocks.proofs.Turned.{Going, going-all, going-none, going-le
 use Rattle.blocks.proofs.body_lvn.Statement.{statement}
 use Rattle.blocks.proofs.body_lvn.Tie as tie
 
+-- every table keeps its length
+record Kept (e₀ l₀ hs₀ ns₀ m₀ o₀ e l hs ns m o : List ℕ) : Type 0 where
+  env : length e ≡ length e₀
+  homes : length l ≡ length l₀
+  heads : length hs ≡ length hs₀
+  nums : length ns ≡ length ns₀
+  names : length m ≡ length m₀
+  out : length o ≡ length o₀
+
 abbrev Inv-loop : tie.InvT-loop
-Inv-loop s types heads₀ nums₀ names₀ out₀ w n count t₀ left₀ heads nums names out t left =
-    Asks w n s t left heads nums ×
-    (Going w n s (type-in types) t₀ (state-of (t₀ .st) heads₀ nums₀) count names₀ out₀ t (state-of (t .st) heads nums) left names out ×
-    ((length heads ≡ length heads₀) × ((length nums ≡ length nums₀) × ((length names ≡ length names₀) × (length out ≡ length out₀)))))
+Inv-loop s types env₀ homes₀ heads₀ nums₀ names₀ out₀ w n count t₀ left₀ env homes heads nums names out t left =
+    Asks w n s env homes t left heads nums ×
+    (Going w n s (type-in types) t₀ (state-of env₀ homes₀ (t₀ .st) heads₀ nums₀) count names₀ out₀ t
+    (state-of env homes (t .st) heads nums) left names out ×
+    Kept env₀ homes₀ heads₀ nums₀ names₀ out₀ env homes heads nums names out)
 
 abbrev μ-loop : tie.MeasureT-loop
-μ-loop s types heads₀ nums₀ names₀ out₀ w n count t₀ left₀ heads nums names out t left = left
+μ-loop s types env₀ homes₀ heads₀ nums₀ names₀ out₀ w n count t₀ left₀ env homes heads nums names out t left = left
 
 loop-holds : tie.Need-loop-holds Inv-loop μ-loop
 loop-holds c =
-    let c6 = c .before .before .before .before .before .before in
-    (c6 .pre, (going-all, (refl, (refl, (refl, refl)))))
+    let c8 = c .before .before .before .before .before .before .before .before in
+    (c8 .pre, (going-all, record { env = refl; homes = refl; heads = refl; nums = refl; names = refl; out = refl }))
 
 turn-once-requires : tie.Need-turn-once-requires Inv-loop μ-loop
 turn-once-requires c κs =
-    let c4 = c .before .before .before .before in
-    let c5 = c4 .before in
-    let v = c5 .loop in
-    let h = c4 .loop-test .taken in
+    let c6 = c .before .before .before .before .before .before in
+    let c7 = c6 .before in
+    let v = c7 .loop in
+    let h = c6 .loop-test .taken in
     let a = v .inv .0 in
-    (asks-fit (v .left) h a, (a .width, (a .tables, asks-passes (v .left) h a)))
+    (asks-fit (v .left) h a, (a .width, (a .maps, (a .tables, asks-passes (v .left) h a))))
 
 loop-again : tie.Need-loop-again Inv-loop μ-loop
 loop-again c =
-    let c8 = c .before .before .before .before .before .before .before .before in
-    let c13 = c8 .before .before .before .before .before in
-    let c14 = c13 .before in
-    let c21 = c14 .before .before .before .before .before .before .before in
-    let v = c14 .loop in
-    let a = c21 .args in
-    let h = c13 .loop-test .taken in
-    let d = c8 .turn-once in
-    let hs = d .last .1 .1 .0 in
-    let ns = d .last .1 .1 .1 .0 in
-    let e : length hs ≡ length (v .heads) = d .kept .1 .1 .0 in
-    let f : length ns ≡ length (v .nums) = d .kept .1 .1 .1 .0 in
-    let k = v .inv .1 .1 in (
-      asks-less (v .left) h (v .inv .0) hs ns e f (d .ensures),
+    let c12 = c .before .before .before .before .before .before .before .before .before .before .before .before in
+    let c19 = c12 .before .before .before .before .before .before .before in
+    let c20 = c19 .before in
+    let v = c20 .loop in
+    let h = c19 .loop-test .taken in
+    let d = c12 .turn-once in
+    let l = d .last .1 .1 in
+    let k = d .kept .1 .1 in
+    let o = v .inv .1 .1 in
+    let env = l .0 in
+    let homes = l .1 .0 in
+    let hs = l .1 .1 .0 in
+    let ns = l .1 .1 .1 .0 in
+    let before = state-of (v .env) (v .homes) (v .t .st) (v .heads) (v .nums) in (
+      asks-less (v .left) h (v .inv .0) env homes hs ns (k .0) (k .1 .0) (k .1 .1 .0) (k .1 .1 .1 .0) (d .ensures),
       (
-        going-less (v .t) (d .result) (state-of (v .t .st) (v .heads) (v .nums)) (state-of (d .result .st) hs ns) (v .left) h
-            (d .ensures) (v .inv .1 .0),
-        (e ∙ k .0, (f ∙ k .1 .0, (d .kept .1 .1 .1 .1 .0 ∙ k .1 .1 .0, d .kept .1 .1 .1 .1 .1 .0 ∙ k .1 .1 .1))),
+        going-less (v .t) (d .result) before (state-of env homes (d .result .st) hs ns) (v .left) h (d .ensures) (v .inv .1 .0),
+        record {
+          env = k .0 ∙ o .env;
+          homes = k .1 .0 ∙ o .homes;
+          heads = k .1 .1 .0 ∙ o .heads;
+          nums = k .1 .1 .1 .0 ∙ o .nums;
+          names = k .1 .1 .1 .1 .0 ∙ o .names;
+          out = k .1 .1 .1 .1 .1 .0 ∙ o .out;
+        },
       ),
     )
 
 returns : tie.Need-returns Inv-loop μ-loop
 returns c =
-    let v = c .before .loop in
+    let c1 = c .before in
+    let v = c1 .loop in
     let z : v .left ≡ 0 = omega arith in
-    going-none (state-of (v .t .st) (v .heads) (v .nums)) (v .left) z refl (v .inv .1 .0)
+    going-none (state-of (v .env) (v .homes) (v .t .st) (v .heads) (v .nums)) (v .left) z refl (v .inv .1 .0)
 
 pub body-lvn-spec : {M : Type 1} → statement M
 body-lvn-spec =
@@ -73,8 +93,10 @@ body-lvn-spec =
     (λ c. search needs)
     (λ c. search needs)
     loop-again
-    (λ c. search needs)
-    (λ c. search needs)
-    (λ c. search needs)
-    (λ c. search needs)
+    (λ c. c .before .loop .inv .1 .1 .env)
+    (λ c. c .before .loop .inv .1 .1 .homes)
+    (λ c. c .before .loop .inv .1 .1 .heads)
+    (λ c. c .before .loop .inv .1 .1 .nums)
+    (λ c. c .before .loop .inv .1 .1 .names)
+    (λ c. c .before .loop .inv .1 .1 .out)
     returns)

@@ -1,10 +1,9 @@
-use Rattle.state.proofs.Views.{locs-in, locs-past}
+-- `state::home_in` meets its contract.
 use mathlib.Core.Path.{sym}
 use borrow.Author.Needs.{needs}
+use Rattle.state.proofs.Views.{locs-in, locs-past}
 use Rattle.state.proofs.home_in.Statement.{statement}
 use Rattle.state.proofs.home_in.Tie as tie
-use Rattle.state.proofs.home_in.Reads as reads
-use Rattle.state.proofs.home_in.Lts as lts
 
 returns : tie.Need-returns
 returns c = let a = c .before .before .args in sym (locs-past (a .homes .now) (a .v) (c .if1 .taken))

@@ -1,9 +1,8 @@
-use Rattle.state.proofs.Views.{number-past, number-none, number-some}
+-- `state::number_in` meets its contract.
 use borrow.Author.Needs.{needs}
+use Rattle.state.proofs.Views.{number-past, number-none, number-some}
 use Rattle.state.proofs.number_in.Statement.{statement}
 use Rattle.state.proofs.number_in.Tie as tie
-use Rattle.state.proofs.number_in.Reads as reads
-use Rattle.state.proofs.number_in.Lts as lts
 
 returns : tie.Need-returns
 returns c = let a = c .before .before .args in number-past (a .env .now) (a .x) (c .if1 .taken)

@@ -1,55 +1,67 @@
-use Rattle.state.proofs.Arguments.{none-numbered, argument}
-use Rattle.state.specs.View.{state-of}
-use Rattle.numbering.specs.State.{start as start-state}
-use borrow.Author.Needs.{needs}
-use lib.ListN.{length, length-set}
-use native.Mathlib.Omega.{arith}
+-- `state::start` meets its contract.
+use Prim.Native.Nat.{ℕ, _-_, _<_, _≤_}
 use mathlib.Core.List.{List}
 use mathlib.Core.Path.{_≡_, refl, sym, ap, _∙_}
-use Prim.Native.Nat.{ℕ, zero, suc, _+_, _-_, _<_, _≤_}
+use native.Mathlib.Omega.{arith}
+use lib.ListN.{length, length-set}
+use borrow.Author.Needs.{needs}
+use Rattle.numbering.specs.State.{start as start-state}
+use Rattle.state.specs.View.{state-of}
+use Rattle.state.proofs.Arguments.{none-numbered, argument}
 use Rattle.state.proofs.start.Statement.{statement}
 use Rattle.state.proofs.start.Tie as tie
-use Rattle.state.proofs.start.Reads as reads
-use Rattle.state.proofs.start.Lts as lts
 
 abbrev Inv-loop : tie.InvT-loop
-Inv-loop heads₀ args k env₀ homes₀ i₀ heads env homes i =
+Inv-loop env₀ homes₀ heads₀ args k i₀ env homes heads i =
     (i ≤ args) × ((length env ≡ 256) × ((length homes ≡ 512) ×
     ((length heads ≡ length heads₀) × ((ns : List ℕ) →
-    state-of (record { env = env; homes = homes; count = i; made = k }) heads ns ≡ start-state i k))))
+    state-of env homes (record { count = i; made = k }) heads ns ≡ start-state i k))))
 
 abbrev μ-loop : tie.MeasureT-loop
-μ-loop heads₀ args k env₀ homes₀ i₀ heads env homes i = args - i
+μ-loop env₀ homes₀ heads₀ args k i₀ env homes heads i = args - i
 
 loop-holds : tie.Need-loop-holds Inv-loop μ-loop
-loop-holds c = (search needs, (refl, (refl, (refl, λ ns. none-numbered (c .args .heads .now) ns (c .args .k)))))
+loop-holds c =
+    let a = c .args in
+    let e = c .pre .0 in
+    let h = c .pre .1 .0 in
+    (search needs, (ap length e, (ap length h, (refl, λ ns. none-numbered (a .env .now) (a .homes .now) (a .heads .now) ns (a .k) e h))))
 
 loop-again : tie.Need-loop-again Inv-loop μ-loop
-loop-again c = let w = c .before in
-    let l = w .loop in
-    let a = w .before .args in
+loop-again c =
+    let c1 = c .before in
+    let c2 = c1 .before in
+    let l = c1 .loop in
+    let a = c2 .args in
     let e : length (l .env) ≡ 256 = l .inv .1 .0 in
     let o : length (l .homes) ≡ 512 = l .inv .1 .1 .0 in
-    let h : length (l .heads) ≡ length (a .heads .now) = l .inv .1 .1 .1 .0 in (
+    let h : length (l .heads) ≡ length (a .heads .now) = l .inv .1 .1 .1 .0 in
+    let few : a .args ≤ 256 = c2 .pre .1 .1 .0 in
+    let wide : 512 ≤ length (a .heads .now) = c2 .pre .1 .1 .1 in
+    let next : l .i < a .args = c .loop-test .taken in (
       search needs,
       (
-        simp length-set (l .inv .1 .0),
+        simp length-set e,
         (
-          simp length-set (l .inv .1 .1 .0),
+          simp length-set o,
           (
-            simp length-set (l .inv .1 .1 .1 .0),
-            λ ns. argument (l .env) (l .homes) (l .heads) ns (l .i) (a .k) (omega arith) (omega arith) (omega arith)
-                (omega arith) (l .inv .1 .1 .1 .1 ns),
+            simp length-set h,
+            λ ns. argument (l .env) (l .homes) (l .heads) ns (l .i) (a .k) (omega arith) (omega arith) (omega arith) (omega arith)
+                (l .inv .1 .1 .1 .1 ns),
           ),
         ),
       ),
     )
 
 returns : tie.Need-returns Inv-loop μ-loop
-returns c = let l = c .before .loop in
-    let z : l .i ≡ c .before .before .args .args = omega arith in
-    λ ns. ap (λ (n : ℕ). state-of (record { env = l .env; homes = l .homes; count = n; made = c .before .before .args .k })
-    (l .heads) ns) (sym z) ∙ l .inv .1 .1 .1 .1 ns ∙ ap (λ (n : ℕ). start-state n (c .before .before .args .k)) z
+returns c =
+    let c1 = c .before in
+    let c2 = c1 .before in
+    let l = c1 .loop in
+    let a = c2 .args in
+    let z : l .i ≡ a .args = omega arith in
+    λ ns. ap (λ (n : ℕ). state-of (l .env) (l .homes) (record { count = n; made = a .k }) (l .heads) ns) (sym z) ∙
+    l .inv .1 .1 .1 .1 ns ∙ ap (λ (n : ℕ). start-state n (a .k)) z
 
 pub start-spec : {M : Type 1} → statement M
 start-spec =
@@ -68,5 +80,7 @@ start-spec =
     (λ c. search needs)
     (λ c. search needs)
     loop-again
-    (λ c. search needs)
+    (λ c. c .before .loop .inv .1 .0 ∙ sym (ap length (c .before .before .pre .0)))
+    (λ c. c .before .loop .inv .1 .1 .0 ∙ sym (ap length (c .before .before .pre .1 .0)))
+    (λ c. c .before .loop .inv .1 .1 .1 .0)
     returns)

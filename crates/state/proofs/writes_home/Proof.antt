@@ -1,14 +1,12 @@
-use Rattle.state.proofs.Itself.{id-itself, not-itself}
-use Rattle.state.specs.View.{locs-of}
-use Rattle.record.specs.declared.NameIx.{NameIx}
+-- `state::writes_home` meets its contract.
+use mathlib.Core.Path.{ap, _∙_}
 use lib.Dec.{eqb}
-use mathlib.Core.Path.{_≡_, refl, sym, ap, _∙_}
 use borrow.Author.Needs.{needs}
+use Rattle.record.specs.declared.NameIx.{NameIx}
+use Rattle.state.specs.View.{locs-of}
+use Rattle.state.proofs.Itself.{id-itself, not-itself}
 use Rattle.state.proofs.writes_home.Statement.{statement}
 use Rattle.state.proofs.writes_home.Tie as tie
-use Rattle.state.proofs.writes_home.Reads as reads
-use Rattle.state.proofs.writes_home.Lts as lts
-use Rattle.state.proofs.home_in.Reads as home-in-reads
 
 returns : tie.Need-returns
 returns c = let w = c .before .before .before .before in

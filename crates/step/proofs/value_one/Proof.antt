@@ -1,6 +1,5 @@
 -- `step::value_one` meets its contract.
 use Prim.Native.Nat.{_<_}
-use mathlib.Core.Option.{none}
 use mathlib.Core.Path.{refl}
 use native.Mathlib.Omega.{arith}
 use mir.Syntax.{w16}
@@ -13,28 +12,25 @@ use Rattle.step.proofs.value_one.Tie as tie
 
 returns : tie.Need-returns
 returns c =
-    let c2 = c .before .before in
-    let c3 = c2 .before in
-    let c7 = c3 .before .before .before .before in
-    let a = c7 .args in
+    let c1 = c .before in
+    let c2 = c1 .before in
+    let c6 = c2 .before .before .before .before in
+    let a = c6 .args in
     let env = a .env .now in
     let hs = a .heads .now in
     let ns = a .nums .now in
-    let n = c3 .number-in .result in
-    let k = known-of (c2 .known-at .result) in
+    let n = c2 .number-in .result in
+    let k = known-of (c1 .known-at .result) in
     let f : Fits w16 (n .0) = search needs in
     let b : n .0 < 65536 = omega (arith, f .fits) in
-    let e = c3 .number-in .ensures in
+    let e = c2 .number-in .ensures in
     let s = reading env hs ns (a .count) in (
-      (λ s h. one-value s k none (c .simplify .ensures) (a .o) (a .x)
-          (number-read s env hs ns (a .count) h (a .x) n e) (c .before .form-one .ensures)
-          (known-read s env hs ns (a .count) h k n (c2 .known-at .ensures))),
-      one-ok s k none (c .simplify .ensures) (a .o) (a .x)
-          (number-read s env hs ns (a .count) (refl, refl) (a .x) n e) (c .before .form-one .ensures)
-          (known-read s env hs ns (a .count) (refl, refl) k n (c2 .known-at .ensures)) 65535 (number-small env (a .x) n e b),
+      (λ s h. one-value s (a .o) (a .x) (c .simplify-one .ensures) (number-read s env hs ns (a .count) h (a .x) n e)
+          (known-read s env hs ns (a .count) h k n (c1 .known-at .ensures))),
+      one-ok s (a .o) (a .x) (c .simplify-one .ensures) (number-read s env hs ns (a .count) (refl, refl) (a .x) n e)
+          (known-read s env hs ns (a .count) (refl, refl) k n (c1 .known-at .ensures)) 65535 (number-small env (a .x) n e b),
     )
 
 pub value-one-spec : {M : Type 1} → statement M
 value-one-spec =
-    tie.close
-    (tie.spec (λ c κs. search needs) (λ c κs. search needs) (λ c κs. search needs) (λ c κs. search needs) returns)
+    tie.close (tie.spec (λ c κs. search needs) (λ c κs. search needs) (λ c κs. search needs) returns)

@@ -10,31 +10,43 @@ use Rattle.step.proofs.Values.{number-small, number-read, known-read, r
 use Rattle.step.proofs.value_two.Statement.{statement}
 use Rattle.step.proofs.value_two.Tie as tie
 
+first-fits : (c : tie.After-number-in) → Fits w16 (c .number-in .result .0)
+first-fits c = search needs
+
+second-fits : (c : tie.After-number-in2) → Fits w16 (c .number-in2 .result .0)
+second-fits c = search needs
+
 returns : tie.Need-returns
-returns c = let a = c .before .before .before .before .before .before .before .before .before .args in
+returns c =
+    let c1 = c .before in
+    let c2 = c1 .before in
+    let c3 = c2 .before in
+    let c4 = c3 .before in
+    let c8 = c4 .before .before .before .before in
+    let a = c8 .args in
     let env = a .env .now in
     let hs = a .heads .now in
     let ns = a .nums .now in
-    let n = c .before .before .before .before .before .number-in .result in
-    let m = c .before .before .before .before .number-in2 .result in
-    let ka = known-of (c .before .before .before .known-at .result) in
-    let kb = known-of (c .before .before .known-at2 .result) in
-    let f : Fits w16 (n .0) = search needs in
-    let g : Fits w16 (m .0) = search needs in
+    let n = c4 .number-in .result in
+    let m = c3 .number-in2 .result in
+    let ka = known-of (c2 .known-at .result) in
+    let kb = known-of (c1 .known-at2 .result) in
+    let f : Fits w16 (n .0) = first-fits c4 in
+    let g : Fits w16 (m .0) = second-fits c3 in
     let nb : n .0 < 65536 = omega (arith, f .fits) in
     let mb : m .0 < 65536 = omega (arith, g .fits) in
-    let d = c .before .before .before .before .before .number-in .ensures in
-    let e = c .before .before .before .before .number-in2 .ensures in
+    let d = c4 .number-in .ensures in
+    let e = c3 .number-in2 .ensures in
     let s = reading env hs ns (a .count) in (
-      (λ s h. two-value s ka kb (c .simplify .ensures) (a .o) (a .x) (a .y)
-          (number-read s env hs ns (a .count) h (a .x) n d) (number-read s env hs ns (a .count) h (a .y) m e) (c .before .form-two .ensures)
-          (known-read s env hs ns (a .count) h ka n (c .before .before .before .known-at .ensures))
-          (known-read s env hs ns (a .count) h kb m (c .before .before .known-at2 .ensures))),
-      two-ok s ka kb (c .simplify .ensures) (a .o) (a .x) (a .y)
+      (λ s h. two-value s (a .o) (a .x) (a .y) (c .simplify-two .ensures)
+          (number-read s env hs ns (a .count) h (a .x) n d) (number-read s env hs ns (a .count) h (a .y) m e)
+          (known-read s env hs ns (a .count) h ka n (c2 .known-at .ensures))
+          (known-read s env hs ns (a .count) h kb m (c1 .known-at2 .ensures))),
+      two-ok s (a .o) (a .x) (a .y) (c .simplify-two .ensures)
           (number-read s env hs ns (a .count) (refl, refl) (a .x) n d)
-          (number-read s env hs ns (a .count) (refl, refl) (a .y) m e) (c .before .form-two .ensures)
-          (known-read s env hs ns (a .count) (refl, refl) ka n (c .before .before .before .known-at .ensures))
-          (known-read s env hs ns (a .count) (refl, refl) kb m (c .before .before .known-at2 .ensures))
+          (number-read s env hs ns (a .count) (refl, refl) (a .y) m e)
+          (known-read s env hs ns (a .count) (refl, refl) ka n (c2 .known-at .ensures))
+          (known-read s env hs ns (a .count) (refl, refl) kb m (c1 .known-at2 .ensures))
           65535 (number-small env (a .x) n d nb) (number-small env (a .y) m e mb),
     )
 
@@ -42,7 +54,6 @@ pub value-two-spec : {M : Type 1} → statement M
 value-two-spec =
     tie.close
     (tie.spec
-    (λ c κs. search needs)
     (λ c κs. search needs)
     (λ c κs. search needs)
     (λ c κs. search needs)

@@ -1,21 +1,16 @@
+-- `values::get_val_num` meets its contract.
+use mathlib.Core.Option.{Option}
+use mathlib.Core.Path.{sym, ap, _∙_}
+use borrow.Author.Needs.{needs}
+use Rattle.arith.specs.Operation.{Expr}
+use Rattle.numbering.specs.Number.{find, get-val-num}
+use Rattle.numbering.specs.View.{expr-of}
+use Rattle.numbering.specs.declared.ValNum.{ValNum}
+use Rattle.numbering.specs.declared.Value.{Value}
 use Rattle.values.proofs.Numbers.{looked-up}
 use Rattle.values.specs.Table.{val-num-of}
-use Rattle.numbering.specs.View.{expr-of}
-use Rattle.numbering.specs.Number.{find, get-val-num}
-use Rattle.numbering.specs.State.{State}
-use Rattle.numbering.specs.declared.Value.{Value}
-use Rattle.numbering.specs.declared.ValNum.{ValNum}
-use Rattle.arith.specs.Operation.{Expr}
-use Prim.Native.Nat.{ℕ}
-use mathlib.Core.Option.{Option, some}
-use mathlib.Core.Path.{_≡_, refl, sym, ap, _∙_}
-use borrow.Author.Needs.{needs}
 use Rattle.values.proofs.get_val_num.Statement.{statement}
 use Rattle.values.proofs.get_val_num.Tie as tie
-use Rattle.values.proofs.get_val_num.Reads as reads
-use Rattle.values.proofs.get_val_num.Lts as lts
-use Rattle.values.proofs.entry_of.Reads as entry-of-reads
-use Rattle.values.proofs.find.Reads as find-reads
 
 returns : tie.Need-returns
 unfolding expr-of
@@ -28,7 +23,7 @@ returns-2 c = λ s p q. ap (λ (v : Value). val-num-of s (expr-of v)) (sym (c .b
 returns-3 : tie.Need-returns-3
 returns-3 c = λ s p q.
     looked-up s _ (c .before .before .before .before .before .args .v) (c .before .before .match .keys3)
-    (λ e h. c .find .ensures e (c .before .entry-of .ensures ∙ h) ∙
+    (λ e h. c .look-up .ensures e (c .before .entry-of .ensures ∙ h) ∙
     ap (λ (f : ValNum → Option (Expr ValNum)). find f e 0 (c .before .before .before .before .before .args .count)) (sym p) ∙
     ap (find (s .vals) e 0) (sym q))
 

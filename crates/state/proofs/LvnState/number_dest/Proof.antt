@@ -1,76 +1,68 @@
-use Rattle.state.proofs.Dest.{settled-known, settled-new, number-stands}
-use Rattle.state.proofs.Steps.{take-view, give-view}
-use Rattle.state.specs.View.{state-of}
-use Rattle.values.specs.Table.{numbered-of, val-num-of}
-use Rattle.numbering.specs.View.{expr-of}
-use lib.ListN.{length, getD}
-use Prim.Native.Nat.{ℕ, _<_, _≤_}
-use native.Mathlib.Omega.{arith}
-use mathlib.Core.Logic.{_≢_}
-use mathlib.Core.Option.{none, some}
+-- `state::LvnState::number_dest` meets its contract.
+use mathlib.Core.Option.{none}
 use mathlib.Core.Path.{_≡_, refl, sym, ap, _∙_}
+use native.Mathlib.Omega.{arith}
+use lib.ListN.{length}
 use borrow.Author.Needs.{needs}
+use Rattle.numbering.specs.View.{expr-of}
+use Rattle.values.specs.Table.{numbered-of, val-num-of}
+use Rattle.state.specs.View.{state-of}
+use Rattle.state.proofs.Dest.{settled-known, settled-new, number-stands}
 use Rattle.state.proofs.LvnState.number_dest.Statement.{statement}
 use Rattle.state.proofs.LvnState.number_dest.Tie as tie
-use Rattle.state.proofs.LvnState.number_dest.Reads as reads
-use Rattle.state.proofs.LvnState.number_dest.Lts as lts
-use Rattle.values.proofs.entry_of.Reads as entry-of-reads
-use Rattle.values.proofs.get_val_num.Reads as get-val-num-reads
+
+update-env-requires : tie.Need-update-env-requires
+update-env-requires c κs =
+    let c2 = c .before .before in
+    let c4 = c2 .before .before in
+    let c11 = c4 .before .before .before .before .before .before .before in
+    let a = c11 .args in
+    let p = c11 .pre in
+    let s = state-of (a .env .now) (a .homes .now) (a .self) (a .heads .now) (a .nums .now) in
+    let k : length (a .env .now) ≡ 256 = p .1 .1 .0 .names in
+    let f : numbered-of (c4 .get-val-num .result) ≡ val-num-of s (expr-of (a .v)) = c4 .get-val-num .ensures s refl refl in
+    let n = sym f ∙ ap numbered-of (c2 .number .given .1) in
+    (omega (arith, p .0), number-stands s (expr-of (a .v)) _ (omega (arith, p .1 .0)) (p .1 .1 .1 .1 .1) n)
 
 returns : tie.Need-returns
-returns c = let w = c .before .before .before in
-    let b = w .before .before .before .before .before .before in
-    let a = b .args in
-    let s = state-of (a .t1) (a .heads .now) (a .nums .now) in
-    let k : length (a .t1 .env) ≡ 256 = search needs in
-    let f : numbered-of (w .get-val-num .result) ≡ val-num-of s (expr-of (a .v)) = w .get-val-num .ensures s refl refl in
-    let p = sym f ∙ ap numbered-of (c .before .number .given .1) in (
-      sym p,
-      take-view (a .t1) (a .heads .now) (a .nums .now) (a .dest) (omega (arith, b .pre .0))
-          _ (number-stands s (expr-of (a .v)) _ (omega (arith, b .pre .1 .0)) (b .pre .1 .1 .1 .1) p) ∙
-          sym (settled-known s (a .dest) (expr-of (a .v)) _ p),
-    )
+returns c =
+    let c2 = c .before .before in
+    let c5 = c2 .before .before .before in
+    let c7 = c5 .before .before in
+    let c14 = c7 .before .before .before .before .before .before .before in
+    let a = c14 .args in
+    let s = state-of (a .env .now) (a .homes .now) (a .self) (a .heads .now) (a .nums .now) in
+    let f : numbered-of (c7 .get-val-num .result) ≡ val-num-of s (expr-of (a .v)) = c7 .get-val-num .ensures s refl refl in
+    let p = sym f ∙ ap numbered-of (c5 .number .given .1) in
+    (sym p, c2 .update-env .ensures (a .homes .now) (a .heads .now) (a .nums .now) ∙ sym (settled-known s (a .dest) (expr-of (a .v)) _ p))
 
 returns-2 : tie.Need-returns-2
-returns-2 c = let w = c .before .before .before in
-    let b = w .before .before .before .before .before .before in
-    let a = b .args in
-    let s = state-of (a .t1) (a .heads .now) (a .nums .now) in
-    let k : length (a .t1 .env) ≡ 256 = search needs in
-    let h : length (a .t1 .homes) ≡ 512 = search needs in
-    let n : a .t1 .count < 512 = b .pre .1 .0 in
-    let f : numbered-of (w .get-val-num .result) ≡ val-num-of s (expr-of (a .v)) = w .get-val-num .ensures s refl refl in
-    let p : val-num-of s (expr-of (a .v)) ≡ none = sym f ∙ ap numbered-of (c .before .enum-told .given .1) in (
-      f,
-      give-view (a .t1) (a .heads .now) (a .nums .now) (a .dest) (omega (arith, b .pre .0)) (omega arith) (λ e. omega arith)
-          _ _ _ (omega (arith, b .pre .1 .1 .0)) (omega (arith, b .pre .1 .1 .1 .0)) (c .entry-of .ensures) ∙
-          sym (settled-new s (a .dest) (expr-of (a .v)) p),
-    )
+returns-2 c =
+    let c8 = c .before .before .before .before .before .before .before .before in
+    let c13 = c8 .before .before .before .before .before in
+    let c15 = c13 .before .before in
+    let c22 = c15 .before .before .before .before .before .before .before in
+    let a = c22 .args in
+    let s = state-of (a .env .now) (a .homes .now) (a .self) (a .heads .now) (a .nums .now) in
+    let f : numbered-of (c15 .get-val-num .result) ≡ val-num-of s (expr-of (a .v)) = c15 .get-val-num .ensures s refl refl in
+    let p : val-num-of s (expr-of (a .v)) ≡ none = sym f ∙ ap numbered-of (c13 .enum-told .given .1) in
+    (f, c8 .give .ensures ∙ sym (settled-new s (a .dest) (expr-of (a .v)) p))
 
 pub number-dest-spec : {M : Type 1} → statement M
 number-dest-spec =
     tie.close
     (tie.spec
-    (λ c. search needs)
     (λ c κs. search needs)
     (λ c. search needs)
-    (λ c. search needs)
-    (λ c. search needs)
+    update-env-requires
     (λ c. search needs)
     (λ c κs. search needs)
-    (λ c. search needs)
-    (λ c. search needs)
-    (λ c. search needs)
-    (λ c. search needs)
-    (λ c. search needs)
-    (λ c. search needs)
-    (λ c. search needs)
-    (λ c. search needs)
-    (λ c. search needs)
     (λ c. search needs)
     (λ c. search needs)
     (λ c. search needs)
     returns
+    (λ c. search needs)
+    (λ c. search needs)
     (λ c. search needs)
     (λ c. search needs)
     returns-2)
