@@ -4,3 +4,5 @@ pub mod Turned
 pub mod Heads
 pub mod Blocks
 pub mod Whole
+pub mod Counted
+pub mod Lent

@@ -13,6 +13,7 @@ ghost use Rattle.state.specs.View.{state-of, saves-of};
 ghost use Rattle.state.specs.Room.{Maps};
 ghost use Rattle.blocks.specs.Block.{save-before, body-bytes, saved-by, Fit, Tables, Passes, Asks, Turned, Done};
 ghost use Rattle.blocks.specs.Blocks.{block-in, blocks-in, BlocksPass, BlocksAsk, BlockDone, BlocksDone};
+ghost use Rattle.blocks.specs.Counted.{CountAsk, CountDone};
 use arith::One;
 use record::Instruction;
 use record::Literal;
@@ -219,6 +220,123 @@ pub fn block_lvn(
     }
 }
 
+// ---- the count of saves, lent to each block
+
+// K, which runs on from block to block, and the saves of all blocks so far.
+pub struct SaveCount {
+    pub k: u16,
+    pub total: u16,
+}
+
+// Where a block stands in the input, and where in the output.
+pub struct Spot {
+    pub p: usize,
+    pub q: usize,
+}
+
+// The place behind a block, and the count there.
+pub struct Behind {
+    pub at: Spot,
+    pub count: SaveCount,
+}
+
+// One block, the count by value: the total grows by the saves of the block.
+pub fn block_counted(
+    c: SaveCount,
+    s: &[u8],
+    types: &[u8],
+    heads: &mut [u64],
+    nums: &mut [u64],
+    names: &mut [u16],
+    out: &mut [u8],
+    w: usize,
+    n: u16,
+    args: u16,
+    at: Spot,
+) -> Behind
+    requires { ⌜ CountAsk w n args (now s) at c (now heads) (now nums) ⌝ }
+    ensures { λ r. ⌜
+        CountDone w n args (now (s .entry)) (type-in (now (types .entry))) at c (r .at) (r .count)
+        (now (names .entry)) (now (names .exit)) (now (out .entry)) (now (out .exit)) ⌝ }
+{
+    let a = Places {
+        p: at.p,
+        q: at.q,
+        k: c.k,
+    };
+    let r = block_lvn(s, types, heads, nums, names, out, w, n, args, a);
+    Behind {
+        at: Spot { p: r.p, q: r.q },
+        count: SaveCount {
+            k: r.k,
+            total: c.total + (r.k - c.k),
+        },
+    }
+}
+
+// One block, the count lent to it and advanced.
+pub fn block_lent(
+    count: &mut SaveCount,
+    s: &[u8],
+    types: &[u8],
+    heads: &mut [u64],
+    nums: &mut [u64],
+    names: &mut [u16],
+    out: &mut [u8],
+    w: usize,
+    n: u16,
+    args: u16,
+    at: Spot,
+) -> Spot
+    requires { ⌜ CountAsk w n args (now s) at (now count) (now heads) (now nums) ⌝ }
+    ensures { λ r. ⌜
+        CountDone w n args (now (s .entry)) (type-in (now (types .entry))) at (now (count .entry)) r (now (count .exit))
+        (now (names .entry)) (now (names .exit)) (now (out .entry)) (now (out .exit)) ⌝ }
+{
+    let b = block_counted(*count, s, types, heads, nums, names, out, w, n, args, at);
+    *count = b.count;
+    b.at
+}
+
+// One block, a local count lent to it and handed back, so that the loop over the blocks has no reference to a struct.
+pub fn block_after(
+    c: SaveCount,
+    s: &[u8],
+    types: &[u8],
+    heads: &mut [u64],
+    nums: &mut [u64],
+    names: &mut [u16],
+    out: &mut [u8],
+    w: usize,
+    n: u16,
+    args: u16,
+    at: Spot,
+) -> Behind
+    requires { ⌜ CountAsk w n args (now s) at c (now heads) (now nums) ⌝ }
+    ensures { λ r. ⌜
+        CountDone w n args (now (s .entry)) (type-in (now (types .entry))) at c (r .at) (r .count)
+        (now (names .entry)) (now (names .exit)) (now (out .entry)) (now (out .exit)) ⌝ }
+{
+    let mut count = c;
+    let next = block_lent(
+        &mut count,
+        s,
+        types,
+        heads,
+        nums,
+        names,
+        out,
+        w,
+        n,
+        args,
+        at,
+    );
+    Behind {
+        at: next,
+        count: count,
+    }
+}
+
 // So many blocks, from where a0 stands; types: the types of the names.
 pub fn blocks_lvn(
     s: &[u8],
@@ -241,11 +359,18 @@ pub fn blocks_lvn(
         (now (names .entry)) (now (names .exit)) (now (out .entry)) (now (out .exit))) ⌝ }
 {
     let n = types.len() as u16;
-    let mut a = a0;
+    let mut at = Spot { p: a0.p, q: a0.q };
+    let mut c = SaveCount { k: a0.k, total: 0 };
     let mut left = count;
     while left > 0 {
-        a = block_lvn(s, types, heads, nums, names, out, w, n, args, a);
+        let b = block_after(c, s, types, heads, nums, names, out, w, n, args, at);
+        at = b.at;
+        c = b.count;
         left -= 1;
     }
-    a
+    Places {
+        p: at.p,
+        q: at.q,
+        k: a0.k + c.total,
+    }
 }
