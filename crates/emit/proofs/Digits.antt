@@ -1,9 +1,11 @@
 -- The decimal digits of a number: those of a tenth of it, then the last.
-use Prim.Native.Nat.{ℕ, zero, suc, _+_, _/_, _%_, _<_, _≤_}
-use mathlib.Core.Path.{_≡_, refl, ap}
+use Prim.Native.Nat.{ℕ, zero, suc, _+_, _*_, _/_, _%_, _^_, _<_, _≤_}
+use mathlib.Core.Path.{_≡_, refl, ap, _∙_}
 use mathlib.Core.List.{List, [], _∷_, _++_}
 use mathlib.Core.Bool.{Bool, true, false, cond}
 use native.Mathlib.Omega.{arith}
+use native.Mathlib.Nat.{pow-suc, one-le-pow}
+use lib.ListN.{length, length-append}
 use lib.Dec.{ltb}
 use borrow.Author.Tests.{ltb-false, lt-ltb, le-ltb}
 use Rattle.numbering.specs.Made.{digits-of, digits}
@@ -33,3 +35,13 @@ unfolding digits digits-of
 digits-more k h =
     rw (le-ltb k 10 h)
     (ap (λ (l : List ℕ). l ++ ((0x30 + k % 10) ∷ [])) (digits-of-same k (suc (k / 10)) (k / 10) (omega arith) (omega arith)))
+
+-- how many there are
+pub digits-count : (j k : ℕ) → 10 ^ j ≤ k → k < 10 ^ suc j → length (digits k) ≡ suc j
+digits-count zero k h l = ap length (digits-one k (omega (arith, pow-suc 10 0, l)))
+digits-count (suc j) k h l =
+    let p : 10 ^ suc j ≡ 10 ^ j * 10 = pow-suc 10 j in
+    let q : 10 ^ suc (suc j) ≡ 10 ^ suc j * 10 = pow-suc 10 (suc j) in
+    let one : 1 ≤ 10 ^ j = one-le-pow j 10 (omega arith) in
+    let rest : length (digits (k / 10)) ≡ suc j = digits-count j (k / 10) (omega arith) (omega arith) in
+    ap length (digits-more k (omega arith)) ∙ length-append (digits (k / 10)) ((0x30 + k % 10) ∷ []) ∙ omega arith

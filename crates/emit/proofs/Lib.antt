@@ -5,3 +5,4 @@ pub mod Digits
 pub mod Made
 pub mod Parts
 pub mod Moved
+pub mod Copies

@@ -1,6 +1,6 @@
 // Writing to a lent slice. A store past the end does nothing, so no writer asks for room, and over an empty slice it learns the size.
 ghost use mathlib.Core.Path.{_≡_};
-ghost use Prim.Native.Nat.{_+_, _^_, _<_, _≤_};
+ghost use Prim.Native.Nat.{_+_, _-_, _^_, _<_, _≤_};
 ghost use lib.ListN.{length, take, drop};
 ghost use Rattle.record.specs.Write.{be, name-bytes};
 ghost use Rattle.numbering.specs.Made.{digits, made-text};
@@ -52,24 +52,45 @@ pub fn put_word(out: &mut [u8], at: usize, w: usize, x: u64)
     }
 }
 
-// n bytes of src, or as many as there are; the place behind them.
-pub fn copy_bytes(src: &[u8], from: usize, n: usize, out: &mut [u8], at: usize) -> usize
-    requires { ⌜ (from < 5000000000) × ((n < 4294967296) × (at < 4294967296)) ⌝ }
-    ensures { λ r. ⌜ Wrote (now (out .entry)) (now (out .exit)) at r (take n (drop from (now (src .entry)))) × (r ≤ at + n) ⌝ }
+// How many of the n places from `at` on are below `end`.
+fn below(n: usize, at: usize, end: usize) -> usize
+    ensures { λ r. ⌜ (r ≤ n) × ((r ≤ end - at) × ((n ≤ end - at → r ≡ n) × (end - at ≤ n → r ≡ end - at))) ⌝ }
+{
+    if end <= at {
+        return 0;
+    }
+    if end - at < n {
+        return end - at;
+    }
+    n
+}
+
+// n bytes of src that are there and have room.
+fn store_bytes(src: &[u8], from: usize, n: usize, out: &mut [u8], at: usize)
+    requires { ⌜ (n ≤ length (now src) - from) × (n ≤ length (now out) - at) ⌝ }
+    ensures { λ _. ⌜ now (out .exit) ≡ put (now (out .entry)) at (take n (drop from (now (src .entry)))) ⌝ }
 {
     let mut p = from;
     let mut q = at;
     let mut left = n;
     while left > 0 {
-        if src.len() <= p {
-            return q;
-        }
-        put_u8(out, q, src[p]);
+        let x = src[p];
+        out[q] = x;
         p += 1;
         q += 1;
         left -= 1;
     }
-    q
+}
+
+// n bytes of src, or as many as there are; the place behind them.
+pub fn copy_bytes(src: &[u8], from: usize, n: usize, out: &mut [u8], at: usize) -> usize
+    requires { ⌜ (from < 5000000000) × ((n < 4294967296) × (at < 4294967296)) ⌝ }
+    ensures { λ r. ⌜ Wrote (now (out .entry)) (now (out .exit)) at r (take n (drop from (now (src .entry)))) × (r ≤ at + n) ⌝ }
+{
+    let m = below(n, from, src.len());
+    let k = below(m, at, out.len());
+    store_bytes(src, from, k, out, at);
+    at + m
 }
 
 // The decimal digits of k; the place behind them.
@@ -84,6 +105,26 @@ pub fn put_digits(out: &mut [u8], at: usize, k: u64) -> usize
     let last = put_digits(out, at, k / 10);
     put_u8(out, last, 48 + (k % 10) as u8);
     last + 1
+}
+
+// How many digits k has.
+pub fn count_digits(k: u64) -> usize
+    requires { ⌜ k < 100000 ⌝ }
+    ensures { λ r. ⌜ (r ≡ length (digits k)) × (r ≤ 5) ⌝ }
+{
+    if k < 10 {
+        return 1;
+    }
+    if k < 100 {
+        return 2;
+    }
+    if k < 1000 {
+        return 3;
+    }
+    if k < 10000 {
+        return 4;
+    }
+    5
 }
 
 // The text of the name made with K = k of the n bytes of src: `_`, they, `_lvn` and the digits of k.

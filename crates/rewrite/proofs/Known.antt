@@ -15,6 +15,7 @@ use Rattle.record.specs.Decode.{name-from, name-end, block-from, block-end, nam
 use Rattle.record.proofs.Tests.{at-most-le, names-limit, names-args}
 use Rattle.record.proofs.Accepted.{read-ok}
 use Rattle.record.proofs.Decode.{length-items}
+use Rattle.record.proofs.Sizes.{total, total-append}
 use Rattle.numbering.specs.Number.{lvn}
 use Rattle.numbering.specs.Made.{made-names, made, rewriting}
 use Rattle.numbering.proofs.Made.{temps-behind}
@@ -30,7 +31,7 @@ use Rattle.blocks.specs.Blocks.{blocks-in, BlocksPass, BlocksAsk, BlocksDone}
 use Rattle.blocks.proofs.Whole.{record-again, accepted-blocks, accepted-pass, blocks-again, blocks-written, made-noted, made-many}
 use Rattle.rewrite.specs.Parts.{record-in, rewriting-in, front-parts, blocks-bytes, Reads, types-in, Noted}
 use Rattle.rewrite.proofs.Inside.{names-inside}
-use Rattle.rewrite.proofs.Parts.{front-written}
+use Rattle.rewrite.proofs.Parts.{front-total, front-written}
 
 -- ---- its fields, by their places
 pub version-in : (s : List ℕ) → record-in s .version ≡ num-at s 4 1
@@ -83,7 +84,7 @@ module _ {s : List ℕ} {end : ℕ} (h : Reads s end) where
   unfolding names-end
   names-on = rw (h .names) (behind-on s (names-count s) 8)
 
-  names-lie : names-end s ≤ length s
+  pub names-lie : names-end s ≤ length s
   names-lie = omega (arith, names-inside limits s (h .it) (h .behind) (h .reads))
 
   -- a block has at most 256 saves
@@ -208,6 +209,22 @@ module _ {s names : List ℕ} {end k : ℕ} (h : Reads s end) (m : Noted s names
 
   made-again : map nm (take k names) ≡ made (record-in s)
   made-again = ap (map nm) (m .saved) ∙ again (made (record-in s))
+
+  -- ---- how long is what stands before the blocks; n: the bytes of the made names
+  pub front-measured :
+      {n : ℕ} → n ≡ length (join (map name-bytes (made-names (record-in s) 0 (map nm (take k names))))) →
+      end + 2 + n ≡ length (join (be 4 0 ∷ front-parts (rewriting-in s)))
+  unfolding rewriting
+  front-measured {n} e =
+      let x = record-in s in
+      let old : total name-bytes (x .names) ≡ names-end s - 8 =
+      sym (ap length (names-copied s (names-lie h))) ∙
+      length-take-le (names-end s - 8) (drop 8 s) (omega (arith, length-drop 8 s, names-lie h)) in
+      let new : n ≡ total name-bytes (made-names x 0 (made x)) =
+      e ∙ ap (λ (xs : List NameIx). total name-bytes (made-names x 0 xs)) made-again in
+      let both : total name-bytes (x .names ++ made-names x 0 (made x)) ≡ total name-bytes (x .names) + total name-bytes (made-names x 0 (made x)) =
+      total-append name-bytes (x .names) (made-names x 0 (made x)) in
+      omega (arith, old, new, both, front-total (rewriting x), h .names, names-on h)
 
   -- ---- what stands before the blocks; l: L, v: version, a: A, n: N + K, b: B
   pub front-put :

@@ -7,7 +7,7 @@ use lib.ListN.{length, take, drop, length-append}
 use Rattle.record.specs.Record.{Instr, Name, Record}
 use Rattle.record.specs.Write.{be, join, name-bytes, content-bytes, bytes}
 use Rattle.record.proofs.Stands.{length-be}
-use Rattle.record.proofs.Sizes.{join-cons, record-size}
+use Rattle.record.proofs.Sizes.{join-cons, join-nil, total, record-size}
 use Rattle.emit.specs.Put.{put, Wrote}
 use Rattle.emit.proofs.Put.{put-before, put-over, put-part}
 use Rattle.emit.proofs.Wrote.{wrote-append, wrote-number}
@@ -29,11 +29,14 @@ parts-whole r x =
 front-size : (r : Record Instr) (x : ℕ) → length (join (be 4 x ∷ front-parts r)) ≡ 4 + length (join (front-parts r))
 front-size r x = join-cons (be 4 x) (front-parts r) ∙ ap (λ (n : ℕ). n + length (join (front-parts r))) (length-be 4 x)
 
--- ---- measured: the places behind the parts, each from 0 on
+pub front-total : (r : Record Instr) → length (join (be 4 0 ∷ front-parts r)) ≡ 10 + total name-bytes (r .names)
+front-total r = simp (join-cons, join-nil, length-be) (omega arith)
+
+-- ---- measured
 pub parts-size :
     (r : Record Instr) (x p q : ℕ) →
-    p ≡ 0 + length (join (be 4 x ∷ front-parts r)) →
-    q ≡ 0 + length (blocks-bytes r) →
+    p ≡ length (join (be 4 x ∷ front-parts r)) →
+    q ≡ length (blocks-bytes r) →
     p + q ≡ length (bytes r)
 parts-size r x p q e f =
     let a : length (join (be 4 x ∷ front-parts r) ++ blocks-bytes r) ≡
@@ -67,7 +70,7 @@ parts-written {l} r x size a b e f =
 pub parts-moved :
     {l m n o : List ℕ} {p q : ℕ} (r : Record Instr) (i x : ℕ) →
     Wrote l m i q (blocks-bytes r) →
-    p ≡ 0 + length (join (be 4 0 ∷ front-parts r)) →
+    p ≡ length (join (be 4 0 ∷ front-parts r)) →
     i ≤ p →
     length (bytes r) ≤ length l →
     n ≡ put m p (take (q - i) (drop i m)) →
@@ -80,7 +83,7 @@ parts-moved {l} {m} {n} {o} {p} {q} r i x a e h room f g y =
     let F = join (be 4 x ∷ front-parts r) in
     let k : q - i ≡ length B = let z : q ≡ i + length B = a .end in omega arith in
     let same : length F ≡ p = omega (arith, front-size r x, front-size r 0, e) in
-    let size : p + length B ≡ length (bytes r) = parts-size r 0 p (length B) e (omega arith) in
+    let size : p + length B ≡ length (bytes r) = parts-size r 0 p (length B) e refl in
     let L : x ≡ length (content-bytes r) = omega (arith, y, k, size, record-size r) in
     let part : take (q - i) (drop i m) ≡ B =
     (λ z. take (k z) (drop i (a .out z))) ∙ put-part l i B (omega (arith, h, size, room)) in

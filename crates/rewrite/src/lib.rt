@@ -74,6 +74,16 @@ pub fn put_front(
     q + 2
 }
 
+// How many bytes that is.
+pub fn front_size(s: &[u8], places: &[u32], names: &[u16], end: usize, k: u16) -> usize
+    requires { ⌜
+        Reads (now s) end × (Noted (now s) (now names) k × NamesAt (now s) (now places) (names-count (now s))) ⌝ }
+    ensures { λ r. ⌜
+        (r ≡ length (join (be 4 0 ∷ front-parts (rewriting-in (now (s .entry)))))) × ((r ≤ 5000000) × (end + 2 ≤ r)) ⌝ }
+{
+    end + 2 + tables::made_size(s, places, names, k as usize)
+}
+
 // How many bytes the rewriting has, and how many saves.
 pub struct Size {
     pub bytes: usize,
@@ -94,11 +104,11 @@ pub fn measure(
         Lent (now s) (now types) (now heads) (now nums) (now names) end × NamesAt (now s) (now places) (names-count (now s)) ⌝ }
     ensures { λ r. ⌜
         (r .bytes ≡ length (bytes (rewriting-in (now (s .entry))))) ×
-        (Noted (now (s .entry)) (now (names .exit)) (r .saves) × (r .bytes ≤ 6000000)) ⌝ }
+        (Noted (now (s .entry)) (now (names .exit)) (r .saves) × (r .bytes ≤ 7000000)) ⌝ }
 {
     let mut none = [0u8; 0];
     let a = put_blocks(s, types, heads, nums, names, &mut none, end, 0);
-    let at = put_front(s, places, names, &mut none, end, a.k, 0);
+    let at = front_size(s, places, names, end, a.k);
     Size {
         bytes: at + a.q,
         saves: a.k,
@@ -120,7 +130,7 @@ pub fn put_record(
     requires { ⌜
         Lent (now s) (now types) (now heads) (now nums) (now names) end ×
         (NamesAt (now s) (now places) (names-count (now s)) × (Noted (now s) (now names) (size .saves) ×
-        ((size .bytes ≡ length (bytes (rewriting-in (now s)))) × (size .bytes ≤ 6000000)))) ⌝ }
+        ((size .bytes ≡ length (bytes (rewriting-in (now s)))) × (size .bytes ≤ 7000000)))) ⌝ }
     ensures { λ _. ⌜ now (out .exit) ≡ put (now (out .entry)) 0 (bytes (rewriting-in (now (s .entry)))) ⌝ }
 {
     let at = put_front(
@@ -155,11 +165,10 @@ pub fn put_once(
         ((r .saves ≡ length (made (record-in (now (s .entry))))) ×
         (now (out .exit) ≡ put (now (out .entry)) 0 (bytes (rewriting-in (now (s .entry)))))) ⌝ }
 {
-    let mut none = [0u8; 0];
     let from = end + 2;
     let a = put_blocks(s, types, heads, nums, names, out, end, from);
     let n = a.q - from;
-    let at = put_front(s, places, names, &mut none, end, a.k, 0);
+    let at = front_size(s, places, names, end, a.k);
     emit::move_up(out, from, at, n);
     put_front(s, places, names, out, end, a.k, (at + n - 4) as u32);
     Size {

@@ -74,7 +74,7 @@ unfolding names-end record-from
 names-copied s h = names-stand s _ 8 h
 
 -- ---- the lengths that stand there
-text-whole : (s : List ℕ) (n at : ℕ) → behind (name-end s) at (suc n) ≤ length s → length (name-from s at .text) ≡ getD s (at + 1) 0
+pub text-whole : (s : List ℕ) (n at : ℕ) → behind (name-end s) at (suc n) ≤ length s → length (name-from s at .text) ≡ getD s (at + 1) 0
 unfolding behind name-end
 text-whole s n at h =
     let o : name-end s at ≤ behind (name-end s) (name-end s at) n = behind-on s n (name-end s at) in

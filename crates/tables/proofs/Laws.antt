@@ -60,7 +60,7 @@ places-hold s l table n h e x j =
 abbrev made-of : List ℕ → ℕ → ℕ → Name
 made-of s k p = record { type = name-from s p .type; text = made-text (name-from s p .text) k }
 
-made-at : (s : List ℕ) (k x : ℕ) → x < names-count s → made-name (plain (record-from s)) k (nm x) ≡ made-of s k (behind (name-end s) 8 x)
+pub made-at : (s : List ℕ) (k x : ℕ) → x < names-count s → made-name (plain (record-from s)) k (nm x) ≡ made-of s k (behind (name-end s) 8 x)
 unfolding record-from made-name type-in
 made-at s k x h =
     let d : Name = record { type = 0; text = [] } in

@@ -6,7 +6,7 @@ ghost use lib.ListN.{length, getD, set, take, drop};
 ghost use lib.Seq.{sets};
 ghost use Rattle.record.specs.Record.{nm, plain};
 ghost use Rattle.record.specs.Write.{be, join, name-bytes};
-ghost use Rattle.record.specs.Decode.{names-count, record-from};
+ghost use Rattle.record.specs.Decode.{names-count, names-end, record-from};
 ghost use Rattle.numbering.specs.Made.{made-name, made-names};
 ghost use Rattle.emit.specs.Put.{Wrote};
 ghost use Rattle.tables.specs.Named.{text-length, places-from, NamesAt, Named, Short};
@@ -113,4 +113,34 @@ pub fn put_made_names(
         left -= 1;
     }
     p
+}
+
+// ---- their sizes
+// How many bytes the name made with K = k of the input's name x has.
+fn made_name_size(s: &[u8], places: &[u32], x: u16, k: u64) -> usize
+    requires { ⌜ (x < names-count (now s)) × ((k < 16384)
+        × (NamesAt (now s) (now places) (names-count (now s)) × (names-end (now s) ≤ length (now s)))) ⌝ }
+    ensures { λ r. ⌜ (r ≡ length (name-bytes (made-name (plain (record-from (now (s .entry)))) k (nm x)))) × (r ≤ 300) ⌝ }
+{
+    let p = name_place(places, x);
+    7 + (fields::byte_or(s, p + 1) as usize) + emit::count_digits(k)
+}
+
+// How many bytes the names made with K = 0 to count - 1 have.
+pub fn made_size(s: &[u8], places: &[u32], made: &[u16], count: usize) -> usize
+    requires { ⌜ (count ≤ 16384) × ((count ≤ length (now made)) × (Named (now made) count (names-count (now s))
+        × (NamesAt (now s) (now places) (names-count (now s)) × (names-end (now s) ≤ length (now s))))) ⌝ }
+    ensures { λ r.
+        ⌜ (r ≡ length (join (map name-bytes (made-names (plain (record-from (now (s .entry)))) 0 (map nm (take count (now (made .entry))))))))
+        × (r ≤ 300 * count) ⌝ }
+{
+    let mut size: usize = 0;
+    let mut i: usize = 0;
+    let mut left = count;
+    while left > 0 {
+        size += made_name_size(s, places, made[i], i as u64);
+        i += 1;
+        left -= 1;
+    }
+    size
 }

@@ -10,27 +10,25 @@ use Rattle.rewrite.proofs.put_once.Tie as tie
 
 move-up-requires : tie.Need-move-up-requires
 move-up-requires c κs =
-    let front = c .before .before in
-    let blocks = front .before .before .before .before .before .before .before .before .before .before .before .before in
+    let front = c .before in
+    let blocks = front .before .before .before .before .before .before .before .before .before .before .before in
     let entry = blocks .before .before .before .before .before .before .before .before .before .before .before .before in
     let n = blocks .put-blocks .result .q - (entry .args .end + 2) in
-    let size = parts-size (rewriting-in (entry .args .s .now)) 0 (front .put-front .result) n (front .put-front .ensures .0 .end)
+    let f = front .front-size .ensures in
+    let size = parts-size (rewriting-in (entry .args .s .now)) 0 (front .front-size .result) n (f .0)
     (omega (arith, blocks .put-blocks .ensures .0 .end)) in
-    (front .put-front .ensures .1 .1, omega (arith, size, entry .pre .1 .1, blocks .put-blocks .kept))
+    (f .1 .1, omega (arith, size, entry .pre .1 .1, blocks .put-blocks .kept))
 
 sub-put-front : tie.Need-sub-put-front
 sub-put-front c =
-    let front = c .before .before .before .before .before .before .before in
-    let entry =
-    front .before .before .before .before .before .before .before .before .before .before .before .before
+    let front = c .before .before .before .before .before .before in
+    let entry = front .before .before .before .before .before .before .before .before .before .before .before
     .before .before .before .before .before .before .before .before .before .before .before .before in
-    omega (arith, front .put-front .ensures .1 .1, names-on (entry .pre .0 .reads))
+    omega (arith, front .front-size .ensures .1 .1, names-on (entry .pre .0 .reads))
 
-put-front-requires-2 : tie.Need-put-front-requires-2
-put-front-requires-2 c κs =
-    let blocks =
-    c .before .before .before .before .before .before .before .before .before .before .before .before .before .before .before .before
-    .before .before .before in
+put-front-requires : tie.Need-put-front-requires
+put-front-requires c κs =
+    let blocks = c .before .before .before .before .before .before .before .before .before .before .before .before .before .before .before .before .before in
     let p = blocks .before .before .before .before .before .before .before .before .before .before .before .before .pre in
     (p .0 .reads, (blocks .put-blocks .ensures .1 .0, p .1 .0))
 
@@ -38,18 +36,17 @@ returns : tie.Need-returns
 returns c =
     let last = c .before .before in
     let moved = last .before .before .before .before .before in
-    let front = moved .before .before .before in
-    let blocks = front .before .before .before .before .before .before .before .before .before .before .before .before in
+    let front = moved .before .before in
+    let blocks = front .before .before .before .before .before .before .before .before .before .before .before in
     let entry = blocks .before .before .before .before .before .before .before .before .before .before .before .before in
     let R = rewriting-in (entry .args .s .now) in
     let n = blocks .put-blocks .result .q - (entry .args .end + 2) in
     let b = blocks .put-blocks .ensures in
-    let f = front .put-front .ensures in (
-      parts-size R 0 (front .put-front .result) n (f .0 .end) (omega (arith, b .0 .end)),
+    let f = front .front-size .ensures in (
+      parts-size R 0 (front .front-size .result) n (f .0) (omega (arith, b .0 .end)),
       (
         b .1 .0 .many,
-        parts-moved R _ _ (b .0) (f .0 .end) (f .1 .1) (entry .pre .1 .1) (moved .move-up .ensures)
-            (last .put-front2 .ensures .0 .out) refl,
+        parts-moved R _ _ (b .0) (f .0) (f .1 .1) (entry .pre .1 .1) (moved .move-up .ensures) (last .put-front .ensures .0 .out) refl,
       ),
     )
 
@@ -60,13 +57,12 @@ put-once-spec =
     (λ c. search needs)
     (λ c κs. search needs)
     (λ c. search needs)
-    (λ c. search needs)
     (λ c κs. search needs)
     move-up-requires
     (λ c. search needs)
     sub-put-front
     (λ c. search needs)
-    put-front-requires-2
+    put-front-requires
     (λ c. search needs)
     (λ c. search needs)
     (λ c. search needs)
