@@ -90,7 +90,7 @@ pub struct Size {
     pub saves: u16,
 }
 
-// Both, learnt by writing to nothing; and the names that are made.
+// Both, by the blocks written to nothing; and the names that are made.
 pub fn measure(
     s: &[u8],
     types: &[u8],
