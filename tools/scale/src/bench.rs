@@ -102,14 +102,15 @@ fn now() -> i64 {
     time.seconds * 1_000_000_000 + time.nanoseconds
 }
 
-/// The least time of a turn, over so many seconds.
-fn least(seconds: u64, mut turn: impl FnMut() -> i64) -> f64 {
+/// The middle time of a turn, over so many seconds: one round in which the clock reads short changes nothing.
+fn middle(seconds: u64, mut turn: impl FnMut() -> i64) -> f64 {
     let start = Instant::now();
-    let mut best = turn();
+    let mut all = vec![turn()];
     while start.elapsed() < Duration::from_secs(seconds) {
-        best = best.min(turn());
+        all.push(turn());
     }
-    best as f64
+    all.sort_unstable();
+    all[all.len() / 2] as f64
 }
 
 /// How often a case is repeated between two looks at the clock.
@@ -117,7 +118,7 @@ fn repeats(case: &Case) -> usize {
     (2000 / case.instructions).max(1)
 }
 
-/// The least time of a call over all records.
+/// The middle time of a call over all records.
 fn rounds(case: &Case, seconds: u64, mut call: impl FnMut(&[u8])) -> f64 {
     let repeats = repeats(case);
     let round = |call: &mut dyn FnMut(&[u8])| {
@@ -127,7 +128,7 @@ fn rounds(case: &Case, seconds: u64, mut call: impl FnMut(&[u8])) -> f64 {
         }
         now() - start
     };
-    least(seconds, || round(&mut call)) / repeats as f64
+    middle(seconds, || round(&mut call)) / repeats as f64
 }
 
 /// The Rust's pass alone: what it takes is made ready before the time starts.
@@ -144,7 +145,7 @@ fn rust_alone(case: &Case, seconds: u64) -> f64 {
         black_box(done);
         time
     };
-    least(seconds, turn) / repeats as f64
+    middle(seconds, turn) / repeats as f64
 }
 
 fn rust_whole(bytes: &[u8]) -> Vec<u8> {
