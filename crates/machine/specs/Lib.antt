@@ -1,2 +1,3 @@
 pub mod Machine
+pub mod Reached
 pub mod Examples
