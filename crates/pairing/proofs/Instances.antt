@@ -24,7 +24,7 @@ use Rattle.pairing.specs.Demand.{Shown, next-block, stop, shown, Starts,
 use Rattle.pairing.specs.Premises.{accepted, are-bytes, value-fits, typed, is-set, all-set, same-value, all-same, not-unset, quiet}
 
 -- ---- tests and facts
-both : (a b : Bool) → T (a && b) → T a × T b
+pub both : (a b : Bool) → T (a && b) → T a × T b
 both true b t = (tt, t)
 both false b t = absurd t
 
@@ -86,7 +86,7 @@ quiet-shown (before b) t e = absurd (let z : _≡_ {A = ℕ} 0 1 = cc in omega a
 quiet-shown (stopped s b p) t e = quiet-stop s t e
 
 -- ---- the premises from the tests
-starts-from :
+pub starts-from :
     (f : Function) (vs ws : List (Option Val)) →
     T (typed (f .types) vs) →
     T (all-set (f .args) vs) →

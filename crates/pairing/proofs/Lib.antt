@@ -19,5 +19,6 @@ pub mod Rules
 pub mod Accepted
 pub mod Instances
 pub mod Computed
+pub mod Unlike
 pub mod Theorems
 pub mod Contract
