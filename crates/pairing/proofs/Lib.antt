@@ -20,5 +20,8 @@ pub mod Accepted
 pub mod Instances
 pub mod Computed
 pub mod Unlike
+pub mod UnlikeRare
+pub mod UnlikePremise
+pub mod UnlikeSaves
 pub mod Theorems
 pub mod Contract

@@ -2,25 +2,23 @@
 -- Beside the facts stand both runs, which shows that they differ in that clause alone.
 use Prim.Native.Nat.{ℕ, _+_}
 use mathlib.Core.Path.{_≡_, refl, sym, subst}
-use mathlib.Core.Logic.{_≢_}
-use mathlib.Core.Bool.{Bool, true, false, not, _&&_, xor}
+use mathlib.Core.Bool.{Bool, true, false, cond, not, _&&_, xor}
 use mathlib.Core.List.{List, [], _∷_, map}
 use mathlib.Core.Option.{Option, none, some}
 use native.Mathlib.Decide.{ℕ-discrete}
 use native.Mathlib.Omega.{arith}
 use lib.ListN.{length, getD}
-use lib.Dec.{T, eqb, eqb-refl}
+use lib.Dec.{T, T-not, eqb, eqb-refl}
 use Rattle.arith.specs.Code.{code1, code2, with-code, one-of, two-of}
 use Rattle.arith.specs.Map.{upd}
 use Rattle.arith.specs.Operation.{Cause, by-zero, overflow, asInt, asBool, with-both, with-one, divide, shift, apply1, apply2, eval}
 use Rattle.arith.specs.Value.{Val, int, float, literal, char, bool, pointer, typeOf, inRange}
 use Rattle.arith.specs.Word.{W, least, minus-one, addW, subW, mulW, divW, ltW}
 use Rattle.record.specs.Form.{value-of, form}
-use Rattle.record.specs.Record.{nm, Instr, Function, names-of, type-in}
+use Rattle.record.specs.Record.{nm, Function, names-of, type-in}
 use Rattle.record.specs.Shape.{shape-of}
 use Rattle.numbering.specs.Number.{is-save, count-saves}
 use Rattle.machine.specs.Machine.{Store, Answer, go-on, Event, Stop, at-end, at-ret, at-halt, at-unset, at-division, tick, assign, happens, read-all, finish, take-value, answered, perform, ask, acknowledged, tell, leave, choose, act, step, run-block, nth, arrive, passes, through, advance-from, advance, begin, iterate, run-with, run}
-use Rattle.machine.specs.Reached.{reached-in, reached-from, reached-with, reached, is-set, all-set as all-read, none-unset, read-no-unset}
 use Rattle.machine.specs.Examples.{store-of, event}
 use Rattle.pairing.specs.Demand.{Shown, next-block, stop, shown, saves-passed, saves-before, Agree, Starts, RunAlike}
 use Rattle.pairing.specs.Premises.{typed, all-set, all-same}
@@ -70,12 +68,8 @@ alike c t h =
     (starts-from (c .first) (c .start₁) (c .start₂) ty st sa) q h
 
 -- what is equal looks equal, however it is looked at
-refute : (b : Bool) → T b → T (not b) → ⊥
-refute true t f = f
-refute false t f = t
-
 pub told : {A : Type 0} (o : A → ℕ) {x y : A} → x ≡ y → T (not (eqb (o x) (o y))) → ⊥
-told o {x} {y} e t = refute (eqb (o x) (o x)) (eqb-refl (o x)) (subst (λ z. T (not (eqb (o x) (o z)))) (sym e) t)
+told o {x} {y} e t = T-not (eqb (o x) (o x)) (subst (λ z. T (not (eqb (o x) (o z)))) (sym e) t) (eqb-refl (o x))
 
 -- ---- "the same events in the same order"
 abbrev first-event : List Event → Event
@@ -88,6 +82,9 @@ word (literal w) = w
 word (char c) = c
 word (bool b) = 0
 word (pointer t b o) = o
+
+abbrev pub first-word : List Event → ℕ
+first-word es = word (getD (first-event es .args) 0 (int 0))
 
 pub record Events : Type 0 where
   pub id : Unlike event-id
@@ -107,10 +104,10 @@ events-refused =
       id = λ h. told (λ es. first-event es .id) (alike event-id tt h .events) tt;
       code = λ h. told (λ es. first-event es .code) (alike event-code tt h .events) tt;
       callee = λ h. told (λ es. first-event es .callee) (alike event-callee tt h .events) tt;
-      argument = λ h. told (λ es. word (getD (first-event es .args) 0 (int 0))) (alike event-argument tt h .events) tt;
+      argument = λ h. told first-word (alike event-argument tt h .events) tt;
       arguments = λ h. told (λ es. length (first-event es .args)) (alike event-arguments tt h .events) tt;
       order = λ h. told (λ es. first-event es .id) (alike event-order tt h .events) tt;
-      ret = λ h. told (λ es. word (getD (first-event es .args) 0 (int 0))) (alike event-ret tt h .events) tt;
+      ret = λ h. told first-word (alike event-ret tt h .events) tt;
       less = λ h. told length (alike event-less tt h .events) tt;
       more = λ h. told length (alike event-more tt h .events) tt;
     }
@@ -143,13 +140,13 @@ events-alone = refl
 
 -- ---- "the same value or nothing in every original name"
 -- nothing, an int, "that literal", another value
-abbrev held : Option Val → ℕ
+abbrev pub held : Option Val → ℕ
 held none = 0
 held (some (int w)) = 1 + w
 held (some (float b)) = 1 + b
 held (some (literal w)) = 1 + W + w
 held (some (char c)) = 1 + c
-held (some (bool b)) = 1
+held (some (bool b)) = cond b 2 1
 held (some (pointer t b o)) = 1 + o
 
 pub record Values : Type 0 where
@@ -195,7 +192,7 @@ abbrev by-cause : Cause → ℕ
 by-cause by-zero = 0
 by-cause overflow = 1
 
-abbrev where-shown : Shown → ℕ
+abbrev pub where-shown : Shown → ℕ
 where-shown (next-block b) = 10 + b
 where-shown (stop at-end) = 0
 where-shown (stop at-ret) = 1

@@ -3,3 +3,4 @@ pub mod Joint
 pub mod Fit
 pub mod Premises
 pub mod Wrong
+pub mod Rare

@@ -4,10 +4,10 @@ use Prim.Native.Nat.{ℕ, _+_}
 use mathlib.Core.List.{List, [], _∷_}
 use mathlib.Core.Option.{Option, none, some}
 use Rattle.arith.specs.Word.{least, minus-one}
-use Rattle.arith.specs.Value.{tint, tbool, tfloat, Val, int, bool, pointer}
+use Rattle.arith.specs.Value.{tint, tfloat, Val, int}
 use Rattle.record.specs.declared.NameIx.{NameIx}
 use Rattle.record.specs.Record.{nm, no-lit, Instr, Block, Function, names-of}
-use Rattle.machine.specs.Machine.{Answer, value, go-on, halt, Event, Run, run}
+use Rattle.machine.specs.Machine.{Answer, go-on, Event, Run, run}
 use Rattle.machine.specs.Examples.{values-in, store-of}
 use Rattle.pairing.specs.Demand.{Shown, shown, saves-passed, saves-before}
 
