@@ -1,5 +1,5 @@
 -- Demand 3 refuses each wrong rewriting of specs/Wrong.antt: one fact for each clause, so that no clause can be weakened.
--- Beside the facts stand both runs, which shows that they differ in that clause alone.
+-- Beside the facts stand both runs of each, which differ there in that clause alone.
 use Prim.Native.Nat.{ℕ, _+_}
 use mathlib.Core.Path.{_≡_, refl, sym, subst}
 use mathlib.Core.Bool.{Bool, true, false, cond, not, _&&_, xor}
@@ -22,7 +22,7 @@ use Rattle.machine.specs.Machine.{Store, Answer, go-on, Event, Stop, at-end, at
 use Rattle.machine.specs.Examples.{store-of, event}
 use Rattle.pairing.specs.Demand.{Shown, next-block, stop, shown, saves-passed, saves-before, Agree, Starts, RunAlike}
 use Rattle.pairing.specs.Premises.{typed, all-set, all-same}
-use Rattle.pairing.specs.Wrong.{Case, run₁, run₂, Seen, seen₁, seen₂, event-id, event-code, event-callee, event-argument, event-arguments, event-order, event-ret, event-less, event-more, value-first, value-middle, value-last, value-for-nothing, nothing-for-value, value-bits, value-literal, next-block-other, end-or-block, none-or-block, stop-id, stop-cause, stop-kind, step-more, step-less, filed-more, filed-less, before-stop, behind-stop, filed-elsewhere, passed-other}
+use Rattle.pairing.specs.Wrong.{Case, run₁, run₂, Seen, seen₁, seen₂, event-id, event-code, event-callee, event-argument, event-arguments, event-order, event-ret, event-less, event-more, value-first, value-middle, value-last, value-for-nothing, nothing-for-value, value-bits, value-literal, next-block-other, end-or-block, none-or-block, stop-id, stop-cause, stop-kind, stop-halt, step-more, step-less, filed-more, filed-less, before-stop, behind-stop, filed-elsewhere, passed-other}
 use Rattle.pairing.proofs.Instances.{both, starts-from}
 
 -- ---- from tests that compute to what demand 3 says of one run
@@ -49,14 +49,17 @@ pub agree :
 unfolding unset-shown
 agree f g σ₁ σ₂ xs n s q h = h σ₁ σ₂ s xs n (λ e. subst (λ p. T (not (unset-shown p))) e q)
 
+-- every premise of demand 3 in one test
 abbrev pub ready : Case → Bool
 ready c =
     typed (c .first .types) (c .start₁) && (all-set (c .first .args) (c .start₁) &&
     (all-same (names-of (c .first)) (c .start₁) (c .start₂) && no-unset (c .first) (store-of (c .start₁)) (c .world) (c .many)))
 
+-- the two functions of a case do not run alike
 abbrev pub Unlike : Case → Type 0
 Unlike c = RunAlike (c .first) (c .second) → ⊥
 
+-- and if they did, its run would agree
 pub alike :
     (c : Case) → T (ready c) → RunAlike (c .first) (c .second) →
     Agree (names-of (c .first)) (c .second .blocks) (run₁ c) (run₂ c)
@@ -207,6 +210,7 @@ pub record Places : Type 0 where
   pub id : Unlike stop-id
   pub cause : Unlike stop-cause
   pub kind : Unlike stop-kind
+  pub halt : Unlike stop-halt
 
 pub places-refused : Places
 unfolding code1 code2 with-code one-of two-of upd asInt asBool with-both with-one divide shift apply1 apply2 eval typeOf inRange addW subW mulW divW ltW value-of form type-in shape-of is-save count-saves tick assign happens read-all finish take-value answered perform ask acknowledged tell leave choose act step run-block nth arrive passes through advance-from advance begin iterate run-with run xor ℕ-discrete typed all-set all-same shown unset-shown saves-passed saves-before
@@ -218,19 +222,21 @@ places-refused =
       id = λ h. told where-shown (alike stop-id tt h .place) tt;
       cause = λ h. told where-shown (alike stop-cause tt h .place) tt;
       kind = λ h. told where-shown (alike stop-kind tt h .place) tt;
+      halt = λ h. told where-shown (alike stop-halt tt h .place) tt;
     }
 
 abbrev division-shown : Stop → Seen
 division-shown s = shows [] (some (int least) ∷ some (int 0) ∷ some (int minus-one) ∷ none ∷ []) (stop s) [] [] 1
 
 pub places-alone :
-    map sides (next-block-other ∷ end-or-block ∷ none-or-block ∷ stop-id ∷ stop-cause ∷ stop-kind ∷ []) ≡
+    map sides (next-block-other ∷ end-or-block ∷ none-or-block ∷ stop-id ∷ stop-cause ∷ stop-kind ∷ stop-halt ∷ []) ≡
     (shows [] (some (int 3) ∷ []) (next-block 1) [] (0 ∷ []) 1, shows [] (some (int 3) ∷ []) (next-block 2) [] (0 ∷ []) 1) ∷
     (shows [] [] (stop at-end) [] (0 ∷ []) 1, shows [] [] (next-block 1) [] (0 ∷ []) 1) ∷
     (shows [] [] (stop at-end) [] [] 0, shows [] [] (next-block 0) [] [] 0) ∷
     (division-shown (at-division 2 by-zero), division-shown (at-division 3 by-zero)) ∷
     (division-shown (at-division 2 by-zero), division-shown (at-division 2 overflow)) ∷
     (division-shown (at-division 2 by-zero), division-shown at-unset) ∷
+    (shows (event 1 20 0 [] ∷ []) (none ∷ []) (stop at-halt) [] [] 2, shows (event 1 20 0 [] ∷ []) (none ∷ []) (stop at-unset) [] [] 2) ∷
     []
 unfolding code1 code2 with-code one-of two-of upd asInt asBool with-both with-one divide shift apply1 apply2 eval typeOf inRange addW subW mulW divW ltW value-of form type-in shape-of is-save count-saves tick assign happens read-all finish take-value answered perform ask acknowledged tell leave choose act step run-block nth arrive passes through advance-from advance begin iterate run-with run xor ℕ-discrete typed all-set all-same shown unset-shown saves-passed saves-before
 places-alone = refl

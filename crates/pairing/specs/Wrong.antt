@@ -1,13 +1,14 @@
 -- Functions with a wrong rewriting each, and a run that shows it: what the statement of demand 3 must refuse, clause by clause.
 -- That they are refused, and what else they differ in, is in proofs/Unlike.antt.
 use Prim.Native.Nat.{ℕ, _+_}
+use mathlib.Core.Bool.{true}
 use mathlib.Core.List.{List, [], _∷_}
 use mathlib.Core.Option.{Option, none, some}
 use Rattle.arith.specs.Word.{least, minus-one}
-use Rattle.arith.specs.Value.{tint, tfloat, Val, int}
+use Rattle.arith.specs.Value.{tint, tbool, tfloat, Val, int, bool}
 use Rattle.record.specs.declared.NameIx.{NameIx}
 use Rattle.record.specs.Record.{nm, no-lit, Instr, Block, Function, names-of}
-use Rattle.machine.specs.Machine.{Answer, go-on, Event, Run, run}
+use Rattle.machine.specs.Machine.{Answer, value, go-on, Event, Run, run}
 use Rattle.machine.specs.Examples.{values-in, store-of}
 use Rattle.pairing.specs.Demand.{Shown, shown, saves-passed, saves-before}
 
@@ -204,6 +205,13 @@ stop-cause = dividing (div 2 3 0 1) (div 2 3 0 2)
 
 abbrev pub stop-kind : Case
 stop-kind = dividing (div 2 3 0 1) (id 2 3 3)
+
+-- a halt, and an unset name read behind a save that takes the answer which does not fit
+abbrev pub stop-halt : Case
+stop-halt =
+    from (none ∷ []) (value (bool true) ∷ []) 1
+    (just 0 (tint ∷ []) (op 1 0 20 [] ∷ []))
+    (fn 0 (tint ∷ tbool ∷ tint ∷ []) (saving 1 (op 1 1 20 [] ∷ id 2 0 2 ∷ []) ∷ []))
 
 -- ---- "exactly as many more steps as the saves filed": names 0 and 1 are 3 and 0, name 2 is made
 abbrev stepping : ℕ → List Instr → List Instr → Case
