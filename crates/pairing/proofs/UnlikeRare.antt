@@ -21,13 +21,15 @@ use Rattle.machine.specs.Machine.{Store, go-on, tick, assign, happens, read-all
 use Rattle.pairing.specs.Demand.{shown, saves-passed, saves-before, Starts, RunAlike}
 use Rattle.pairing.specs.Premises.{typed, all-set, all-same}
 use Rattle.pairing.specs.Wrong.{seen₁, seen₂}
-use Rattle.pairing.specs.Rare.{copies-unread, copies-early, greatest-argument, reads-made, greatest-answer, writes-early, behind-answers, takes-bool, second-block, behind-loop, ordinary}
+use Rattle.pairing.specs.Rare.{copies-unread, copies-early, greatest-argument, rare-argument, false-argument, reads-made, greatest-answer, writes-early, behind-answers, takes-bool, second-block, behind-loop, ordinary}
 use Rattle.pairing.proofs.Unlike.{unset-shown, agree, alike, Unlike, told, first-word, held, where-shown}
 
 pub record Rare : Type 0 where
   pub unread : Unlike copies-unread
   pub early : Unlike copies-early
   pub argument : Unlike greatest-argument
+  pub rare : Unlike rare-argument
+  pub is-false : Unlike false-argument
   pub answer : Unlike greatest-answer
   pub halted : Unlike writes-early
   pub answered : Unlike behind-answers
@@ -42,6 +44,8 @@ rare-refused =
       unread = λ h. told length (alike copies-unread tt h .events) tt;
       early = λ h. told held (alike copies-early tt h .values (nm 0) (omega arith)) tt;
       argument = λ h. told held (alike greatest-argument tt h .values (nm 3) (omega arith)) tt;
+      rare = λ h. told held (alike rare-argument tt h .values (nm 2) (omega arith)) tt;
+      is-false = λ h. told held (alike false-argument tt h .values (nm 2) (omega arith)) tt;
       answer = λ h. told held (alike greatest-answer tt h .values (nm 3) (omega arith)) tt;
       halted = λ h. told held (alike writes-early tt h .values (nm 1) (omega arith)) tt;
       answered = λ h. told held (alike behind-answers tt h .values (nm 1) (omega arith)) tt;

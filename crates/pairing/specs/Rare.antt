@@ -1,7 +1,7 @@
 -- Functions with a wrong rewriting each that only a rare run shows: what demand 3 must refuse, so that it holds from every store,
 -- with every list of answers and over every number of blocks. Beside each, ordinary runs of the same two functions, which are alike.
 use Prim.Native.Nat.{ℕ}
-use mathlib.Core.Bool.{true}
+use mathlib.Core.Bool.{true, false}
 use mathlib.Core.List.{List, [], _∷_}
 use mathlib.Core.Option.{Option, none, some}
 use Rattle.arith.specs.Word.{least}
@@ -38,6 +38,20 @@ wraps a i j =
 
 abbrev pub greatest-argument : Case
 greatest-argument = wraps 1 (nop 1) (nop 1)
+
+-- a = 1311768467463790320 taken to be false, "under one rare store"; and of two bools taken to be the first: unlike where that is true
+-- and the other false
+abbrev pub rare-argument : Case
+rare-argument =
+    from (some (int 0x1234_5678_9ABC_DEF0) ∷ none ∷ none ∷ []) [] 1
+    (just 1 (tint ∷ tint ∷ tbool ∷ []) (const 1 1 0x1234_5678_9ABC_DEF0 ∷ op 2 2 5 (nm 0 ∷ nm 1 ∷ []) ∷ []))
+    (just 1 (tint ∷ tint ∷ tbool ∷ []) (const 1 1 0x1234_5678_9ABC_DEF0 ∷ literal-in 2 2 1 0 ∷ []))
+
+abbrev pub false-argument : Case
+false-argument =
+    from (some (bool true) ∷ some (bool false) ∷ none ∷ []) [] 1
+    (just 2 (tbool ∷ tbool ∷ tbool ∷ []) (op 1 2 11 (nm 0 ∷ nm 1 ∷ []) ∷ []))
+    (just 2 (tbool ∷ tbool ∷ tbool ∷ []) (id 1 2 0 ∷ []))
 
 -- a function that reads a name beyond its own, which is made: it is not like itself
 abbrev pub reads-made : Function
@@ -98,6 +112,10 @@ ordinary =
     instead copies-early (none ∷ some (int 5) ∷ []) [] 2 ∷
     instead greatest-argument (some (int 0) ∷ none ∷ none ∷ none ∷ []) [] 1 ∷
     instead greatest-argument (some (int least) ∷ none ∷ none ∷ none ∷ []) [] 1 ∷
+    instead rare-argument (some (int 0x1234_5678_9ABC_DEF1) ∷ none ∷ none ∷ []) [] 1 ∷
+    instead false-argument (some (bool false) ∷ some (bool false) ∷ none ∷ []) [] 1 ∷
+    instead false-argument (some (bool false) ∷ some (bool true) ∷ none ∷ []) [] 1 ∷
+    instead false-argument (some (bool true) ∷ some (bool true) ∷ none ∷ []) [] 1 ∷
     instead greatest-answer (none ∷ none ∷ none ∷ none ∷ []) (value (int 0) ∷ []) 1 ∷
     instead greatest-answer (none ∷ none ∷ none ∷ none ∷ []) [] 1 ∷
     instead writes-early (some (int 3) ∷ none ∷ []) (go-on ∷ []) 1 ∷
