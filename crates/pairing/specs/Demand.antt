@@ -49,9 +49,13 @@ pub record Agree (N : ℕ) (bs : List (Block Instr)) (r₁ r₂ : Run) : Type 0 
   pub passed : r₂ .passed ≡ r₁ .passed
   pub steps : r₂ .mach .steps ≡ r₁ .mach .steps + (saves-passed bs (r₂ .passed) + saves-before N bs (r₂ .place))
 
--- "the same typed store in which every argument is set"; made names may hold anything
+-- "Typed store: each name has a value of its type or nothing; made names may hold anything."
+abbrev pub TypedStore : Function → Store → Type 0
+TypedStore f σ = (x : NameIx) → x .0 < names-of f → (v : Val) → σ x ≡ some v → HasType (type-in (f .types) x) v
+
+-- "the same typed store in which every argument is set": the same on the original names
 pub record Starts (f : Function) (σ₁ σ₂ : Store) : Type 0 where
-  pub typed : (x : NameIx) → x .0 < names-of f → (v : Val) → σ₁ x ≡ some v → HasType (type-in (f .types) x) v
+  pub typed : TypedStore f σ₁
   pub set : (x : NameIx) → x .0 < f .args → (v : Val) × (σ₁ x ≡ some v)
   pub same : (x : NameIx) → x .0 < names-of f → σ₂ x ≡ σ₁ x
 
