@@ -1,7 +1,6 @@
 -- Demand 3 is not empty: records, stores and answers that meet every premise of it, by computation.
 use Prim.Native.Nat.{ℕ, zero, suc, _<_, _≤_}
 use mathlib.Core.Path.{_≡_, refl, sym, ap, _∙_, subst}
-use mathlib.Core.Logic.{_≢_}
 use mathlib.Core.Bool.{Bool, true, false, _&&_, xor}
 use mathlib.Core.List.{List, [], _∷_, map}
 use mathlib.Core.Option.{Option, none, some}
@@ -9,6 +8,7 @@ use native.Mathlib.Decide.{ℕ-discrete}
 use native.Mathlib.Omega.{arith}
 use lib.ListN.{length, getD}
 use lib.Dec.{T, ltb, ltb→lt}
+use lib.Ieee.Bits.{is-true}
 use Rattle.arith.specs.Map.{pick}
 use Rattle.arith.specs.Value.{Val, Val-discrete, has-type, HasType, int, bool}
 use Rattle.record.specs.declared.NameIx.{NameIx}
@@ -16,12 +16,13 @@ use Rattle.record.specs.Record.{Bytes, Placed, Record, Function, function, plai
 use Rattle.record.specs.Reader.{Res, got, fault}
 use Rattle.record.specs.Typing.{accept}
 use Rattle.numbering.specs.Number.{lvn}
-use Rattle.machine.specs.Machine.{Store, Answer, Stop, at-end, at-ret, at-halt, at-unset, at-division, Place, before, stopped, run}
+use Rattle.machine.specs.Machine.{Store, Answer, run}
+use Rattle.machine.specs.Reached.{read-no-unset}
 use Rattle.machine.specs.Examples.{store-of, function-of}
 use Rattle.pairing.proofs.Accepted.{accepted-fit}
 use Rattle.pairing.proofs.Functions.{demand3}
-use Rattle.pairing.specs.Demand.{Shown, next-block, stop, shown, Starts, Agree, RunAlike}
-use Rattle.pairing.specs.Premises.{accepted, are-bytes, value-fits, typed, is-set, all-set, same-value, all-same, not-unset, quiet}
+use Rattle.pairing.specs.Demand.{Starts, Agree, RunAlike}
+use Rattle.pairing.specs.Premises.{accepted, are-bytes, value-fits, typed, is-set, all-set, same-value, all-same}
 
 -- ---- tests and facts
 both : (a b : Bool) → T (a && b) → T a × T b
@@ -73,18 +74,6 @@ same-at (suc n) (o ∷ vs) [] t x l = absurd t
 same-at (suc n) (o ∷ vs) (p ∷ ws) t zero l = same-values o p (both (same-value o p) (all-same n vs ws) t .0)
 same-at (suc n) (o ∷ vs) (p ∷ ws) t (suc x) l = same-at n vs ws (both (same-value o p) (all-same n vs ws) t .1) x (omega arith)
 
-quiet-stop : (s : Stop) → T (not-unset s) → stop s ≢ stop at-unset
-quiet-stop at-end t e = absurd (let z : _≡_ {A = ℕ} 0 1 = cc in omega arith)
-quiet-stop at-ret t e = absurd (let z : _≡_ {A = ℕ} 0 1 = cc in omega arith)
-quiet-stop at-halt t e = absurd (let z : _≡_ {A = ℕ} 0 1 = cc in omega arith)
-quiet-stop at-unset t e = t
-quiet-stop (at-division i c) t e = absurd (let z : _≡_ {A = ℕ} 0 1 = cc in omega arith)
-
-quiet-shown : (p : Place) → T (quiet p) → shown p ≢ stop at-unset
-unfolding shown
-quiet-shown (before b) t e = absurd (let z : _≡_ {A = ℕ} 0 1 = cc in omega arith)
-quiet-shown (stopped s b p) t e = quiet-stop s t e
-
 -- ---- the premises from the tests
 starts-from :
     (f : Function) (vs ws : List (Option Val)) →
@@ -122,7 +111,7 @@ abbrev pub meets : List ℕ → List (Option Val) → List (Option Val) → List
 meets s vs ws answers n =
     let f = function-of (accept limits s) in
     are-bytes s && (accepted (accept limits s) && (typed (f .types) vs && (all-set (f .args) vs &&
-    (all-same (names-of f) vs ws && quiet (run f (store-of vs) answers n .place)))))
+    (all-same (names-of f) vs ws && read-no-unset f (store-of vs) answers n))))
 
 pub instance :
     (s : List ℕ) (vs ws : List (Option Val)) (answers : List Answer) (n : ℕ) →
@@ -138,5 +127,5 @@ instance s vs ws answers n t =
     record {
       alike =
           record-alike s b a (store-of vs) (store-of ws) (starts-from f vs ws ty st sa) answers n
-          (quiet-shown (run f (store-of vs) answers n .place) q);
+          (is-true (read-no-unset f (store-of vs) answers n) q);
     }

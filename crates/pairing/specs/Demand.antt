@@ -1,8 +1,7 @@
 -- Demand 3 and the bound on saves, as statements about a function and its rewriting. The theorems are in proofs/.
 use Prim.Native.Nat.{ℕ, _+_, _≤_, _<_}
 use mathlib.Core.Path.{_≡_}
-use mathlib.Core.Logic.{_≢_}
-use mathlib.Core.Bool.{cond}
+use mathlib.Core.Bool.{true, cond}
 use mathlib.Core.List.{List, [], _∷_}
 use mathlib.Core.Option.{Option, none, some}
 use lib.ListN.{take}
@@ -11,7 +10,8 @@ use Rattle.record.specs.declared.NameIx.{NameIx}
 use Rattle.record.specs.Record.{Instr, Block, Function, names-of, type-in}
 use Rattle.record.specs.Shape.{shape-of}
 use Rattle.numbering.specs.Number.{count-saves, lvn}
-use Rattle.machine.specs.Machine.{Store, Answer, Stop, at-unset, Place, before, stopped, Run, nth, run}
+use Rattle.machine.specs.Machine.{Store, Answer, Stop, Place, before, stopped, Run, nth, run}
+use Rattle.machine.specs.Reached.{read-no-unset}
 
 -- "the same next block or the same stop"
 pub data Shown : Type 0 where
@@ -59,13 +59,14 @@ pub record Starts (f : Function) (σ₁ σ₂ : Store) : Type 0 where
   pub set : (x : NameIx) → x .0 < f .args → (v : Val) × (σ₁ x ≡ some v)
   pub same : (x : NameIx) → x .0 < names-of f → σ₂ x ≡ σ₁ x
 
--- demand 3 for a function f and another, g: over every store, list of answers and number of blocks
+-- demand 3 for a function f and another, g: over every store, list of answers and number of blocks n such that
+-- "the run has read no unset name by then"
 abbrev pub RunAlike : Function → Function → Type 0
 RunAlike f g =
     (σ₁ σ₂ : Store) →
     Starts f σ₁ σ₂ →
     (answers : List Answer) (n : ℕ) →
-    shown (run f σ₁ answers n .place) ≢ stop at-unset →
+    read-no-unset f σ₁ answers n ≡ true →
     Agree (names-of f) (g .blocks) (run f σ₁ answers n) (run g σ₂ answers n)
 
 -- how many instructions have a destination

@@ -10,8 +10,6 @@ use Rattle.arith.specs.Value.{Val, Val-discrete, has-type}
 use Rattle.record.specs.Record.{Placed, Record, Function, limits}
 use Rattle.record.specs.Reader.{Res, got, fault}
 use Rattle.record.specs.Typing.{accept}
-use Rattle.machine.specs.Machine.{Answer, Stop, at-end, at-ret, at-halt, at-unset, at-division, Place, before, stopped, run}
-use Rattle.machine.specs.Examples.{store-of, function-of}
 
 abbrev pub accepted : {A : Type 0} → Res A → Bool
 accepted (got x p) = true
@@ -53,14 +51,3 @@ all-same zero vs ws = true
 all-same (suc n) [] ws = false
 all-same (suc n) (v ∷ vs) [] = false
 all-same (suc n) (v ∷ vs) (w ∷ ws) = same-value v w && all-same n vs ws
-
-abbrev pub not-unset : Stop → Bool
-not-unset at-end = true
-not-unset at-ret = true
-not-unset at-halt = true
-not-unset at-unset = false
-not-unset (at-division i c) = true
-
-abbrev pub quiet : Place → Bool
-quiet (before b) = true
-quiet (stopped s b p) = not-unset s
