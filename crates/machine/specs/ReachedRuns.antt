@@ -3,10 +3,10 @@ use Prim.Native.Nat.{ℕ}
 use mathlib.Core.Path.{_≡_, refl}
 use mathlib.Core.Bool.{Bool, true, false, xor}
 use mathlib.Core.List.{List, [], _∷_, map}
-use mathlib.Core.Option.{Option, none, some}
+use mathlib.Core.Option.{none, some}
 use native.Mathlib.Decide.{ℕ-discrete}
-use Rattle.arith.specs.Value.{Val, int, bool}
-use Rattle.record.specs.Record.{nm, no-lit, Instr, Block, Function}
+use Rattle.arith.specs.Value.{int, bool}
+use Rattle.record.specs.Record.{nm, no-lit, Instr, Function}
 use Rattle.arith.specs.Code.{code1, code2, with-code, one-of, two-of}
 use Rattle.arith.specs.Map.{upd}
 use Rattle.arith.specs.Operation.{asInt, asBool, with-both, with-one, divide, apply1, apply2, eval}

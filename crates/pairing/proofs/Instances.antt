@@ -1,22 +1,20 @@
 -- Demand 3 is not empty: records, stores and answers that meet every premise of it, by computation.
-use Prim.Native.Nat.{ℕ, zero, suc, _<_, _≤_}
-use mathlib.Core.Path.{_≡_, refl, sym, ap, _∙_, subst}
-use mathlib.Core.Bool.{Bool, true, false, _&&_, xor}
-use mathlib.Core.List.{List, [], _∷_, map}
+use Prim.Native.Nat.{ℕ, zero, suc, _<_}
+use mathlib.Core.Path.{_≡_, refl, sym, ap, subst}
+use mathlib.Core.Bool.{Bool, true, false, _&&_}
+use mathlib.Core.List.{List, [], _∷_}
 use mathlib.Core.Option.{Option, none, some}
-use native.Mathlib.Decide.{ℕ-discrete}
 use native.Mathlib.Omega.{arith}
-use lib.ListN.{length, getD}
+use lib.ListN.{getD}
 use lib.Dec.{T, ltb, ltb→lt}
 use lib.Ieee.Bits.{is-true}
 use Rattle.arith.specs.Map.{pick}
-use Rattle.arith.specs.Value.{Val, Val-discrete, has-type, HasType, int, bool}
-use Rattle.record.specs.declared.NameIx.{NameIx}
+use Rattle.arith.specs.Value.{Val, Val-discrete, HasType}
 use Rattle.record.specs.Record.{Bytes, Placed, Record, Function, function, plain, limits, names-of, type-in}
 use Rattle.record.specs.Reader.{Res, got, fault}
 use Rattle.record.specs.Typing.{accept}
 use Rattle.numbering.specs.Number.{lvn}
-use Rattle.machine.specs.Machine.{Store, Answer, run}
+use Rattle.machine.specs.Machine.{Answer, run}
 use Rattle.machine.specs.Reached.{read-no-unset}
 use Rattle.machine.specs.Examples.{store-of, function-of}
 use Rattle.pairing.proofs.Accepted.{accepted-fit}

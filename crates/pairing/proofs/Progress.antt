@@ -10,10 +10,10 @@ use native.Mathlib.Nat.{add-zero}
 use native.Mathlib.Omega.{arith}
 use Rattle.record.specs.declared.NameIx.{NameIx}
 use Rattle.record.specs.Record.{Instr, Block, Function, names-of, type-in}
-use Rattle.machine.specs.Machine.{Store, Context, plain-machine, Answer, Stop, at-end, at-ret, at-halt, at-unset, at-division, Mach, Step, goes, jumps, ends, step, Out, falls, leaps, breaks, after, run-block, Place, before, stopped, Run, nth, arrived, arrive, passes, through, advance-from, advance, begin, iterate, run-with, run}
+use Rattle.machine.specs.Machine.{Store, Context, plain-machine, Answer, Stop, at-end, at-ret, at-halt, at-unset, at-division, Mach, Step, step, Out, falls, leaps, breaks, after, run-block, Place, before, stopped, Run, nth, arrived, arrive, passes, through, advance-from, advance, begin, iterate, run-with, run}
 use Rattle.machine.specs.Reached.{Reached, onward, reached-in, reached-of, reached-from, reached-with, reached, all-set, none-unset, read-no-unset}
 use Rattle.pairing.specs.Joint.{Performed}
-use Rattle.pairing.specs.Demand.{next-block, stop, shown, body-of, TypedStore}
+use Rattle.pairing.specs.Demand.{stop, shown, body-of, TypedStore}
 use Rattle.pairing.specs.Fit.{FitBody, FitFunction}
 use Rattle.pairing.specs.Progress.{ReadsUnset, Progress, not-unset, quiet}
 use Rattle.pairing.proofs.Operands.{TypedIn}

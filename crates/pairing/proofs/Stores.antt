@@ -1,18 +1,18 @@
 -- A step of an instruction that fits, from a typed store: it leaves the store typed, and it stops as unset exactly where an argument
 -- of the instruction holds nothing. Rests on what operations answer.
 use Prim.Native.Nat.{ℕ, _<_}
-use mathlib.Core.Path.{_≡_, refl, sym, ap, _∙_, subst}
+use mathlib.Core.Path.{_≡_, refl, sym, subst}
 use mathlib.Core.Bool.{Bool, true, false, _&&_}
 use mathlib.Core.List.{List, [], _∷_}
 use mathlib.Core.Option.{Option, none, some}
 use Rattle.arith.specs.Map.{pick, upd}
 use Rattle.arith.specs.Value.{tbool, Val, has-type, HasType}
-use Rattle.arith.specs.Operation.{Result, ok, stops, unset, Expr, asBool, eval}
+use Rattle.arith.specs.Operation.{Result, ok, stops, unset, Expr, eval}
 use Rattle.record.specs.declared.NameIx.{NameIx}
 use Rattle.record.specs.Record.{NameIx-discrete, Instr}
 use Rattle.record.specs.Form.{Form, pure, new, effect, return, nop, jump, branch, form}
 use Rattle.numbering.specs.Number.{operands, reads}
-use Rattle.machine.specs.Machine.{Store, Context, Answer, value, go-on, halt, Event, Stop, at-ret, at-halt, at-unset, at-division, Mach, Step, goes, jumps, ends, tick, assign, happens, read-all, event-of, finish, take-value, answered, perform, ask, acknowledged, tell, leave, choose, bool-in, act, step}
+use Rattle.machine.specs.Machine.{Store, Context, Answer, value, go-on, halt, Event, Stop, at-unset, Mach, Step, goes, jumps, ends, tick, assign, happens, read-all, event-of, finish, take-value, answered, perform, ask, acknowledged, tell, leave, choose, bool-in, act, step}
 use Rattle.machine.specs.Reached.{is-set, all-set}
 use Rattle.pairing.specs.Joint.{Typed, Elem, first, later, Performed}
 use Rattle.pairing.specs.Fit.{All, FitInstr}

@@ -9,7 +9,7 @@ use Rattle.arith.specs.Value.{Val, HasType}
 use Rattle.record.specs.declared.NameIx.{NameIx}
 use Rattle.record.specs.Record.{Instr, Block, Function, names-of, type-in}
 use Rattle.record.specs.Shape.{shape-of}
-use Rattle.numbering.specs.Number.{count-saves, lvn}
+use Rattle.numbering.specs.Number.{count-saves}
 use Rattle.machine.specs.Machine.{Store, Answer, Stop, Place, before, stopped, Run, nth, run}
 use Rattle.machine.specs.Reached.{read-no-unset}
 

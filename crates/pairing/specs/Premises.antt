@@ -3,13 +3,10 @@ use Prim.Native.Nat.{ℕ, zero, suc}
 use mathlib.Core.Bool.{Bool, true, false, _&&_}
 use mathlib.Core.List.{List, [], _∷_}
 use mathlib.Core.Option.{Option, none, some}
-use native.Mathlib.Decide.{ℕ-discrete}
 use lib.Dec.{ltb}
 use Rattle.arith.specs.Map.{pick}
 use Rattle.arith.specs.Value.{Val, Val-discrete, has-type}
-use Rattle.record.specs.Record.{Placed, Record, Function, limits}
 use Rattle.record.specs.Reader.{Res, got, fault}
-use Rattle.record.specs.Typing.{accept}
 
 abbrev pub accepted : {A : Type 0} → Res A → Bool
 accepted (got x p) = true
