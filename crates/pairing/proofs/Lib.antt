@@ -22,5 +22,6 @@ pub mod Rules
 pub mod Accepted
 pub mod Instances
 pub mod Computed
+pub mod NoProgress
 pub mod Theorems
 pub mod Contract

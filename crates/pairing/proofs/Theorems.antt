@@ -31,7 +31,7 @@ use Rattle.numbering.proofs.Made.{all-saves, made-length, saves-of, saves-args,
 use Rattle.numbering.proofs.Differ.{texts-differ}
 use Rattle.machine.specs.Machine.{Store, Answer, at-unset, run}
 use Rattle.machine.specs.Reached.{read-no-unset}
-use Rattle.pairing.specs.Demand.{shown, stop, TypedStore, RunAlike, SavesBounded}
+use Rattle.pairing.specs.Demand.{shown, stop, Agree, TypedStore, Starts, RunAlike, SavesBounded}
 use Rattle.pairing.specs.Fit.{All}
 use Rattle.pairing.specs.Progress.{Progress}
 use Rattle.pairing.proofs.Accepted.{accepted-fit}
@@ -66,6 +66,15 @@ unset-read-or-stopped s r a σ typed answers n =
       read-then-quiet (function (plain r)) fit σ typed answers n,
       quiet-then-read (function (plain r)) fit σ typed answers n,
     )
+
+-- So demand 3 asks no more of a run than that it has not stopped as unset.
+pub runs-alike-unless-unset :
+    (s : List ℕ) (r : Record Placed) → Accepted s r → (σ₁ σ₂ : Store) → Starts (function (plain r)) σ₁ σ₂ → (answers : List Answer) (n : ℕ) →
+    shown (run (function (plain r)) σ₁ answers n .place) ≢ stop at-unset →
+    Agree (names-of (function (plain r))) (lvn (function (plain r)) .blocks) (run (function (plain r)) σ₁ answers n)
+    (run (lvn (function (plain r))) σ₂ answers n)
+runs-alike-unless-unset s r a σ₁ σ₂ starts answers n h =
+    runs-alike s r a σ₁ σ₂ starts answers n (unset-read-or-stopped s r a σ₁ (starts .typed) answers n .1 h)
 
 -- No block of the rewriting has more saves than the same block of the input has instructions with a destination.
 pub few-saves : (s : List ℕ) (r : Record Placed) → Accepted s r → SavesBounded (function (plain r)) (lvn (function (plain r)))
