@@ -69,9 +69,9 @@ jumped-over =
 abbrev over-again : List (List Instr)
 over-again = (op 1 68 0 (0 ∷ []) [] ∷ op 2 20 2 [] [] ∷ op 3 64 0 [] (0 ∷ []) ∷ []) ∷ []
 
--- one block, with these instructions
-abbrev one-block : List Instr → List (List Instr)
-one-block is = is ∷ []
+-- x = id a | x = add x a; ret x: the second block reads what the first has set
+abbrev set-before : List (List Instr)
+set-before = (op 1 13 2 (0 ∷ []) [] ∷ []) ∷ (op 2 1 2 (2 ∷ 0 ∷ []) [] ∷ op 3 66 0 (2 ∷ []) [] ∷ []) ∷ []
 
 -- ---- what they come to
 pub come-to :
@@ -94,8 +94,7 @@ come-to = refl
 
 -- each with the store that it found, not the one that it left: x is 5 from the second instruction on, and 10 from the third
 pub found :
-    map (λ c. values-in (c .store) 0 (0 ∷ 0 ∷ 0 ∷ []))
-    (reached (func (one-block (op 1 13 2 (0 ∷ []) [] ∷ op 2 1 2 (2 ∷ 0 ∷ []) [] ∷ op 3 66 0 (2 ∷ []) [] ∷ []))) σ [] 1) ≡
+    map (λ c. values-in (c .store) 0 (0 ∷ 0 ∷ 0 ∷ [])) (reached (func set-before) σ [] 2) ≡
     (some (int 5) ∷ some (int 0) ∷ none ∷ []) ∷
     (some (int 5) ∷ some (int 0) ∷ some (int 5) ∷ []) ∷
     (some (int 5) ∷ some (int 0) ∷ some (int 10) ∷ []) ∷ []
@@ -109,12 +108,14 @@ pub has-read-no-unset :
     map (unread behind-stop []) (1 ∷ 2 ∷ []) ∷
     map (unread jumped-over []) (1 ∷ 2 ∷ 3 ∷ 4 ∷ []) ∷
     map (unread over-again (go-on ∷ value (int 7) ∷ go-on ∷ halt ∷ [])) (1 ∷ 2 ∷ 3 ∷ []) ∷
+    map (unread set-before []) (1 ∷ 2 ∷ []) ∷
     map (unread [] []) (0 ∷ 1 ∷ []) ∷ [] ≡
     (true ∷ true ∷ false ∷ false ∷ []) ∷
     (true ∷ true ∷ true ∷ true ∷ []) ∷
     (true ∷ true ∷ []) ∷
     (true ∷ true ∷ true ∷ true ∷ []) ∷
     (true ∷ true ∷ true ∷ []) ∷
+    (true ∷ true ∷ []) ∷
     (true ∷ true ∷ []) ∷ []
 unfolding code1 code2 with-code one-of two-of upd asInt asBool with-both with-one divide apply1 apply2 eval typeOf inRange addW form type-in tick assign happens read-all finish take-value answered perform ask acknowledged tell leave choose act step run-block nth arrive passes through advance-from advance begin iterate run-with run reached-in reached-from reached-with reached is-set all-set none-unset read-no-unset xor ℕ-discrete
 has-read-no-unset = refl
@@ -122,7 +123,7 @@ has-read-no-unset = refl
 -- in one block: the first, a middle and the last argument; the first, a middle and the last instruction; a dest that is read too; a name that
 -- the instruction before has set; br, ret and a call
 pub reads-unset :
-    map (λ is. unread (one-block is) (go-on ∷ go-on ∷ []) 1) (
+    map (λ is. unread (is ∷ []) (go-on ∷ go-on ∷ []) 1) (
     (op 1 68 0 (2 ∷ 0 ∷ 0 ∷ []) [] ∷ []) ∷
     (op 1 68 0 (0 ∷ 2 ∷ 0 ∷ []) [] ∷ []) ∷
     (op 1 68 0 (0 ∷ 0 ∷ 2 ∷ []) [] ∷ []) ∷
