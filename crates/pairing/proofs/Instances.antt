@@ -23,7 +23,7 @@ use Rattle.pairing.specs.Demand.{Starts, Agree, RunAlike}
 use Rattle.pairing.specs.Premises.{accepted, are-bytes, value-fits, typed, is-set, all-set, same-value, all-same}
 
 -- ---- tests and facts
-both : (a b : Bool) → T (a && b) → T a × T b
+pub both : (a b : Bool) → T (a && b) → T a × T b
 both true b t = (tt, t)
 both false b t = absurd t
 
@@ -73,7 +73,7 @@ same-at (suc n) (o ∷ vs) (p ∷ ws) t zero l = same-values o p (both (same-val
 same-at (suc n) (o ∷ vs) (p ∷ ws) t (suc x) l = same-at n vs ws (both (same-value o p) (all-same n vs ws) t .1) x (omega arith)
 
 -- ---- the premises from the tests
-starts-from :
+pub starts-from :
     (f : Function) (vs ws : List (Option Val)) →
     T (typed (f .types) vs) →
     T (all-set (f .args) vs) →

@@ -21,6 +21,10 @@ pub mod Functions
 pub mod Rules
 pub mod Accepted
 pub mod Instances
+pub mod Unlike
+pub mod UnlikeRare
+pub mod UnlikePremise
+pub mod UnlikeSaves
 pub mod Computed
 pub mod NoProgress
 pub mod Theorems

@@ -1,4 +1,6 @@
 pub mod Demand
+pub mod Wrong
+pub mod Rare
 pub mod Joint
 pub mod Fit
 pub mod Premises

@@ -1,0 +1,72 @@
+-- Demand 3 refuses each wrong rewriting of specs/Rare.antt, which only a rare store, list of answers or number of blocks shows:
+-- it cannot be narrowed to fewer of them.
+use Prim.Native.Nat.{ℕ}
+use mathlib.Core.Path.{_≡_, refl}
+use mathlib.Core.Bool.{xor}
+use mathlib.Core.List.{[], _∷_, map}
+use mathlib.Core.Option.{some}
+use native.Mathlib.Decide.{ℕ-discrete}
+use native.Mathlib.Omega.{arith}
+use lib.ListN.{length}
+use Rattle.arith.specs.Code.{code1, code2, with-code, one-of, two-of}
+use Rattle.arith.specs.Map.{upd}
+use Rattle.arith.specs.Operation.{asInt, asBool, with-both, with-one, divide, shift, apply1, apply2, eval}
+use Rattle.arith.specs.Value.{int, typeOf, inRange}
+use Rattle.arith.specs.Word.{addW, subW, mulW, divW, ltW}
+use Rattle.record.specs.Form.{value-of, form}
+use Rattle.record.specs.Record.{nm, type-in}
+use Rattle.record.specs.Shape.{shape-of}
+use Rattle.numbering.specs.Number.{is-save, count-saves}
+use Rattle.machine.specs.Machine.{Store, go-on, tick, assign, happens, read-all, finish, take-value, answered, perform, ask, acknowledged, tell, leave, choose, act, step, run-block, nth, arrive, passes, through, advance-from, advance, begin, iterate, run-with, run}
+use Rattle.pairing.specs.Demand.{shown, saves-passed, saves-before, Starts, RunAlike}
+use Rattle.pairing.specs.Premises.{typed, all-set, all-same}
+use Rattle.pairing.specs.Wrong.{seen₁, seen₂}
+use Rattle.pairing.specs.Rare.{copies-unread, copies-early, greatest-argument, reads-made, greatest-answer, writes-early, behind-answers, takes-bool, second-block, behind-loop, ordinary}
+use Rattle.pairing.proofs.Unlike.{unset-shown, agree, alike, Unlike, told, first-word, held, where-shown}
+
+pub record Rare : Type 0 where
+  pub unread : Unlike copies-unread
+  pub early : Unlike copies-early
+  pub argument : Unlike greatest-argument
+  pub answer : Unlike greatest-answer
+  pub halted : Unlike writes-early
+  pub answered : Unlike behind-answers
+  pub ill-fitting : Unlike takes-bool
+  pub two-blocks : Unlike second-block
+  pub more-blocks : Unlike behind-loop
+
+pub rare-refused : Rare
+unfolding code1 code2 with-code one-of two-of upd asInt asBool with-both with-one divide shift apply1 apply2 eval typeOf inRange addW subW mulW divW ltW value-of form type-in shape-of is-save count-saves tick assign happens read-all finish take-value answered perform ask acknowledged tell leave choose act step run-block nth arrive passes through advance-from advance begin iterate run-with run xor ℕ-discrete typed all-set all-same shown unset-shown saves-passed saves-before
+rare-refused =
+    record {
+      unread = λ h. told length (alike copies-unread tt h .events) tt;
+      early = λ h. told held (alike copies-early tt h .values (nm 0) (omega arith)) tt;
+      argument = λ h. told held (alike greatest-argument tt h .values (nm 3) (omega arith)) tt;
+      answer = λ h. told held (alike greatest-answer tt h .values (nm 3) (omega arith)) tt;
+      halted = λ h. told held (alike writes-early tt h .values (nm 1) (omega arith)) tt;
+      answered = λ h. told held (alike behind-answers tt h .values (nm 1) (omega arith)) tt;
+      ill-fitting = λ h. told where-shown (alike takes-bool tt h .place) tt;
+      two-blocks = λ h. told held (alike second-block tt h .values (nm 0) (omega arith)) tt;
+      more-blocks = λ h. told held (alike behind-loop tt h .values (nm 0) (omega arith)) tt;
+    }
+
+-- what else the same functions do
+pub ordinary-alike : map seen₁ ordinary ≡ map seen₂ ordinary
+unfolding code1 code2 with-code one-of two-of upd asInt asBool with-both with-one divide shift apply1 apply2 eval typeOf inRange addW subW mulW divW ltW value-of form type-in shape-of is-save count-saves tick assign happens read-all finish take-value answered perform ask acknowledged tell leave choose act step run-block nth arrive passes through advance-from advance begin iterate run-with run xor ℕ-discrete typed all-set all-same shown unset-shown saves-passed saves-before
+ordinary-alike = refl
+
+-- made names may hold anything: other things in the two stores, from which demand 3 starts
+abbrev all-hold : ℕ → Store
+all-hold w x = some (int w)
+
+starts-bare : (w v : ℕ) → Starts reads-made (all-hold w) (all-hold v)
+starts-bare w v =
+    record {
+      typed = λ x l. absurd (omega arith);
+      set = λ x l. absurd (omega arith);
+      same = λ x l. absurd (omega arith);
+    }
+
+pub made-names-differ : RunAlike reads-made reads-made → ⊥
+unfolding code1 code2 with-code one-of two-of upd asInt asBool with-both with-one divide shift apply1 apply2 eval typeOf inRange addW subW mulW divW ltW value-of form type-in shape-of is-save count-saves tick assign happens read-all finish take-value answered perform ask acknowledged tell leave choose act step run-block nth arrive passes through advance-from advance begin iterate run-with run xor ℕ-discrete typed all-set all-same shown unset-shown saves-passed saves-before
+made-names-differ h = told first-word (agree reads-made reads-made (all-hold 3) (all-hold 5) (go-on ∷ []) 1 (starts-bare 3 5) tt h .events) tt

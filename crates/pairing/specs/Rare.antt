@@ -1,0 +1,115 @@
+-- Functions with a wrong rewriting each that only a rare run shows: what demand 3 must refuse, so that it holds from every store,
+-- with every list of answers and over every number of blocks. Beside each, ordinary runs of the same two functions, which are alike.
+use Prim.Native.Nat.{ℕ}
+use mathlib.Core.Bool.{true}
+use mathlib.Core.List.{List, [], _∷_}
+use mathlib.Core.Option.{Option, none, some}
+use Rattle.arith.specs.Word.{least}
+use Rattle.arith.specs.Value.{tint, tbool, Val, int, bool}
+use Rattle.record.specs.Record.{nm, Instr, Block, Function}
+use Rattle.machine.specs.Machine.{Answer, value, go-on, halt}
+use Rattle.pairing.specs.Wrong.{literal-in, const, op, does, print, nop, id, saving, body, fn, just, Case, from, next-block-other}
+
+-- the same two functions, run otherwise
+abbrev instead : Case → List (Option Val) → List Answer → ℕ → Case
+instead c vs xs n = from vs xs n (c .first) (c .second)
+
+-- ---- stores
+-- name 1 is copied though the input never reads it: unlike where it holds nothing
+abbrev pub copies-unread : Case
+copies-unread =
+    from (some (int 3) ∷ none ∷ []) (go-on ∷ []) 1
+    (just 1 (tint ∷ tint ∷ []) (print 1 0 ∷ []))
+    (fn 1 (tint ∷ tint ∷ tint ∷ []) (saving 1 (id 1 2 1 ∷ print 1 0 ∷ []) ∷ []))
+
+-- it is copied a block before the input reads it: unlike where it holds nothing, before that block
+abbrev pub copies-early : Case
+copies-early =
+    from (none ∷ none ∷ []) [] 1
+    (fn 0 (tint ∷ tint ∷ []) (body (const 1 0 7 ∷ []) ∷ body (id 2 0 1 ∷ []) ∷ []))
+    (fn 0 (tint ∷ tint ∷ tint ∷ []) (saving 1 (id 1 2 1 ∷ const 1 0 7 ∷ []) ∷ body (id 2 0 1 ∷ []) ∷ []))
+
+-- a + 1 > a taken to be true: unlike where a is the greatest int
+abbrev wraps : ℕ → Instr → Instr → Case
+wraps a i j =
+    from (some (int 0x7FFF_FFFF_FFFF_FFFF) ∷ none ∷ none ∷ none ∷ []) (value (int 0x7FFF_FFFF_FFFF_FFFF) ∷ []) 1
+    (just a (tint ∷ tint ∷ tint ∷ tbool ∷ []) (i ∷ const 2 1 1 ∷ op 3 2 1 (nm 0 ∷ nm 1 ∷ []) ∷ op 4 3 7 (nm 2 ∷ nm 0 ∷ []) ∷ []))
+    (just a (tint ∷ tint ∷ tint ∷ tbool ∷ []) (j ∷ const 2 1 1 ∷ op 3 2 1 (nm 0 ∷ nm 1 ∷ []) ∷ literal-in 4 3 1 1 ∷ []))
+
+abbrev pub greatest-argument : Case
+greatest-argument = wraps 1 (nop 1) (nop 1)
+
+-- a function that reads a name beyond its own, which is made: it is not like itself
+abbrev pub reads-made : Function
+reads-made = just 0 [] (print 1 0 ∷ [])
+
+-- ---- answers
+-- and where a, which a call gives, is the greatest int
+abbrev pub greatest-answer : Case
+greatest-answer = wraps 0 (op 1 0 20 []) (op 1 0 20 [])
+
+-- name 1 is written before the print and not behind it: unlike where the answer to the print does not let the run go on
+abbrev pub writes-early : Case
+writes-early =
+    from (some (int 3) ∷ none ∷ []) (halt ∷ []) 1
+    (just 1 (tint ∷ tint ∷ []) (print 1 0 ∷ const 2 1 7 ∷ []))
+    (just 1 (tint ∷ tint ∷ []) (const 2 1 7 ∷ print 1 0 ∷ []))
+
+-- behind two prints: unlike where both are answered
+abbrev pub behind-answers : Case
+behind-answers =
+    from (some (int 3) ∷ none ∷ []) (go-on ∷ go-on ∷ []) 1
+    (just 1 (tint ∷ tint ∷ []) (print 1 0 ∷ print 2 0 ∷ const 3 1 7 ∷ []))
+    (just 1 (tint ∷ tint ∷ []) (print 1 0 ∷ print 2 0 ∷ const 3 1 8 ∷ []))
+
+-- name 0 is of a type that no value has, so that no answer fits; the rewriting takes a bool: unlike where the answer is one
+abbrev pub takes-bool : Case
+takes-bool =
+    from (none ∷ []) (value (bool true) ∷ []) 1
+    (just 0 (4 ∷ []) (op 1 0 20 [] ∷ []))
+    (fn 0 (4 ∷ tbool ∷ []) (saving 1 (op 1 1 20 [] ∷ []) ∷ []))
+
+-- ---- numbers of blocks
+abbrev pub second-block : Case
+second-block =
+    from (none ∷ []) [] 2
+    (fn 0 (tint ∷ []) (body (nop 1 ∷ []) ∷ body (const 2 0 7 ∷ []) ∷ []))
+    (fn 0 (tint ∷ []) (body (nop 1 ∷ []) ∷ body (const 2 0 8 ∷ []) ∷ []))
+
+-- three blocks, of which the second is passed three times
+abbrev counting : ℕ → List (Block Instr)
+counting w =
+    body (const 1 0 0 ∷ const 2 1 1 ∷ const 3 2 3 ∷ []) ∷
+    body (op 4 0 1 (nm 0 ∷ nm 1 ∷ []) ∷ op 5 3 6 (nm 0 ∷ nm 2 ∷ []) ∷ does 6 65 (nm 3 ∷ []) 0 (1 ∷ 2 ∷ []) ∷ []) ∷
+    body (const 7 0 w ∷ []) ∷
+    []
+
+abbrev pub behind-loop : Case
+behind-loop =
+    from (none ∷ none ∷ none ∷ none ∷ []) [] 5
+    (fn 0 (tint ∷ tint ∷ tint ∷ tbool ∷ []) (counting 7))
+    (fn 0 (tint ∷ tint ∷ tint ∷ tbool ∷ []) (counting 8))
+
+-- ---- runs of the same functions that show nothing
+abbrev pub ordinary : List Case
+ordinary =
+    instead copies-unread (some (int 3) ∷ some (int 5) ∷ []) (go-on ∷ []) 1 ∷
+    instead copies-early (none ∷ some (int 5) ∷ []) [] 1 ∷
+    instead copies-early (none ∷ some (int 5) ∷ []) [] 2 ∷
+    instead greatest-argument (some (int 0) ∷ none ∷ none ∷ none ∷ []) [] 1 ∷
+    instead greatest-argument (some (int least) ∷ none ∷ none ∷ none ∷ []) [] 1 ∷
+    instead greatest-answer (none ∷ none ∷ none ∷ none ∷ []) (value (int 0) ∷ []) 1 ∷
+    instead greatest-answer (none ∷ none ∷ none ∷ none ∷ []) [] 1 ∷
+    instead writes-early (some (int 3) ∷ none ∷ []) (go-on ∷ []) 1 ∷
+    instead behind-answers (some (int 3) ∷ none ∷ []) [] 1 ∷
+    instead behind-answers (some (int 3) ∷ none ∷ []) (go-on ∷ halt ∷ []) 1 ∷
+    instead takes-bool (none ∷ []) [] 1 ∷
+    instead takes-bool (none ∷ []) (halt ∷ []) 1 ∷
+    instead takes-bool (none ∷ []) (value (int 3) ∷ []) 1 ∷
+    instead second-block (none ∷ []) [] 1 ∷
+    instead behind-loop (none ∷ none ∷ none ∷ none ∷ []) [] 1 ∷
+    instead behind-loop (none ∷ none ∷ none ∷ none ∷ []) [] 2 ∷
+    instead behind-loop (none ∷ none ∷ none ∷ none ∷ []) [] 4 ∷
+    instead next-block-other (some (int 3) ∷ []) [] 0 ∷
+    instead next-block-other (some (int 3) ∷ []) [] 2 ∷
+    []
