@@ -15,12 +15,12 @@ use Rattle.record.specs.Reader.{Res, got, fault}
 use Rattle.record.specs.Typing.{accept}
 use Rattle.numbering.specs.Number.{lvn}
 use Rattle.machine.specs.Machine.{Answer, run}
-use Rattle.machine.specs.Reached.{read-no-unset}
+use Rattle.machine.specs.Reached.{is-set, read-no-unset}
 use Rattle.machine.specs.Examples.{store-of, function-of}
 use Rattle.pairing.proofs.Accepted.{accepted-fit}
 use Rattle.pairing.proofs.Functions.{demand3}
 use Rattle.pairing.specs.Demand.{Starts, Agree, RunAlike}
-use Rattle.pairing.specs.Premises.{accepted, are-bytes, value-fits, typed, is-set, all-set, same-value, all-same}
+use Rattle.pairing.specs.Premises.{accepted, are-bytes, value-fits, typed, first-set, same-value, all-same}
 
 -- ---- tests and facts
 pub both : (a b : Bool) → T (a && b) → T a × T b
@@ -43,16 +43,16 @@ typed-at [] (o ∷ vs) p n v e = absurd p
 typed-at (t ∷ ts) (o ∷ vs) p zero v e = fits-value t o (both (value-fits t o) (typed ts vs) p .0) v e
 typed-at (t ∷ ts) (o ∷ vs) p (suc n) v e = typed-at ts vs (both (value-fits t o) (typed ts vs) p .1) n v e
 
-set-at : (n : ℕ) (vs : List (Option Val)) → T (all-set n vs) → (x : ℕ) → x < n → (v : Val) × (getD vs x none ≡ some v)
-unfolding all-set
+set-at : (n : ℕ) (vs : List (Option Val)) → T (first-set n vs) → (x : ℕ) → x < n → (v : Val) × (getD vs x none ≡ some v)
+unfolding first-set is-set
 set-at zero vs t x l = absurd (let z : 0 < 0 = omega arith in omega arith)
 set-at (suc n) [] t x l = absurd t
-set-at (suc n) (o ∷ vs) t zero l = held o (both (is-set o) (all-set n vs) t .0)
+set-at (suc n) (o ∷ vs) t zero l = held o (both (is-set o) (first-set n vs) t .0)
   where
     held : (o : Option Val) → T (is-set o) → (v : Val) × (o ≡ some v)
     held none p = absurd p
     held (some v) p = (v, refl)
-set-at (suc n) (o ∷ vs) t (suc x) l = set-at n vs (both (is-set o) (all-set n vs) t .1) x (omega arith)
+set-at (suc n) (o ∷ vs) t (suc x) l = set-at n vs (both (is-set o) (first-set n vs) t .1) x (omega arith)
 
 same-values : (o p : Option Val) → T (same-value o p) → p ≡ o
 same-values none none t = refl
@@ -76,7 +76,7 @@ same-at (suc n) (o ∷ vs) (p ∷ ws) t (suc x) l = same-at n vs ws (both (same-
 pub starts-from :
     (f : Function) (vs ws : List (Option Val)) →
     T (typed (f .types) vs) →
-    T (all-set (f .args) vs) →
+    T (first-set (f .args) vs) →
     T (all-same (names-of f) vs ws) →
     Starts f (store-of vs) (store-of ws)
 unfolding type-in
@@ -108,7 +108,7 @@ pub record Instance (s : List ℕ) (vs ws : List (Option Val)) (answers : List A
 abbrev pub meets : List ℕ → List (Option Val) → List (Option Val) → List Answer → ℕ → Bool
 meets s vs ws answers n =
     let f = function-of (accept limits s) in
-    are-bytes s && (accepted (accept limits s) && (typed (f .types) vs && (all-set (f .args) vs &&
+    are-bytes s && (accepted (accept limits s) && (typed (f .types) vs && (first-set (f .args) vs &&
     (all-same (names-of f) vs ws && read-no-unset f (store-of vs) answers n))))
 
 pub instance :
@@ -120,7 +120,7 @@ instance s vs ws answers n t =
     let (b, t₁) = both (are-bytes s) _ t in
     let (a, t₂) = both (accepted (accept limits s)) _ t₁ in
     let (ty, t₃) = both (typed (f .types) vs) _ t₂ in
-    let (st, t₄) = both (all-set (f .args) vs) _ t₃ in
+    let (st, t₄) = both (first-set (f .args) vs) _ t₃ in
     let (sa, q) = both (all-same (names-of f) vs ws) _ t₄ in
     record {
       alike =

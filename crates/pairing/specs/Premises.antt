@@ -6,6 +6,7 @@ use mathlib.Core.Option.{Option, none, some}
 use lib.Dec.{ltb}
 use Rattle.arith.specs.Map.{pick}
 use Rattle.arith.specs.Value.{Val, Val-discrete, has-type}
+use Rattle.machine.specs.Reached.{is-set}
 use Rattle.record.specs.Reader.{Res, got, fault}
 
 abbrev pub accepted : {A : Type 0} → Res A → Bool
@@ -26,15 +27,11 @@ typed ts [] = true
 typed [] (v ∷ vs) = false
 typed (t ∷ ts) (v ∷ vs) = value-fits t v && typed ts vs
 
-abbrev pub is-set : Option Val → Bool
-is-set none = false
-is-set (some v) = true
-
 -- the first n are set
-unfoldable pub all-set : ℕ → List (Option Val) → Bool
-all-set zero vs = true
-all-set (suc n) [] = false
-all-set (suc n) (v ∷ vs) = is-set v && all-set n vs
+unfoldable pub first-set : ℕ → List (Option Val) → Bool
+first-set zero vs = true
+first-set (suc n) [] = false
+first-set (suc n) (v ∷ vs) = is-set v && first-set n vs
 
 abbrev pub same-value : Option Val → Option Val → Bool
 same-value none none = true
