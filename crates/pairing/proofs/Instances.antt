@@ -73,7 +73,7 @@ same-at (suc n) (o ∷ vs) (p ∷ ws) t zero l = same-values o p (both (same-val
 same-at (suc n) (o ∷ vs) (p ∷ ws) t (suc x) l = same-at n vs ws (both (same-value o p) (all-same n vs ws) t .1) x (omega arith)
 
 -- ---- the premises from the tests
-starts-from :
+pub starts-from :
     (f : Function) (vs ws : List (Option Val)) →
     T (typed (f .types) vs) →
     T (all-set (f .args) vs) →
