@@ -31,7 +31,7 @@ use Rattle.machine.specs.Reached.{reached-in, reached-from, reached-with, reach
 use Rattle.machine.specs.Examples.{Summary, summary, store-of, function-of, event}
 use Rattle.pairing.specs.Demand.{next-block, stop, shown, saves-passed, saves-before, count-dests}
 use Rattle.pairing.specs.Premises.{are-bytes, typed, first-set, all-same}
-use Rattle.pairing.proofs.Instances.{Instance, instance}
+use Rattle.pairing.proofs.Instances.{Instance, meets, instance}
 
 -- the run of a record's function and the run of its rewriting; the values are those of the original names
 abbrev first-run : List ℕ → List (Option Val) → List Answer → ℕ → Summary
@@ -167,6 +167,21 @@ pub loop-rewritten-run :
     }
 unfolding code1 code2 with-code one-of two-of upd asInt asBool with-both with-one divide shift apply1 apply2 eval typeOf inRange addW subW mulW divW ltW value-of form digit-value bytes-from hex name-index literal arguments operands instr block name names length-field end contents read give _>>=_ here field text if-there times type-in id-bytes shape-of any at-most below length-test version-test names-test type-test text-length-test text-test saves-test code-test count-test literal-test all-text well-formed undigited reserved same-bytes among obeys well-typed body-types block-types accept reads numbered make-val val-to-instr save save-at handle-overwrite find get-val-num number-dest place by-form instr-lvn block-lvn is-save count-saves blocks-lvn saved-in made-from lvn folded fold1 fold2 is-int is-bool identity ordered simplify1 simplify2 simplify start new-number update-env rehome see gen-new-vals number-of home-of known-value known-expr known tick assign happens read-all finish take-value answered perform ask acknowledged tell leave choose act step run-block nth arrive passes through advance-from advance begin iterate run-with run xor ℕ-discrete are-bytes typed first-set all-same
 loop-rewritten-run = refl
+
+-- ---- a name that is not set is read in the second block: the first block's runs are alike, and more is not said
+-- print a | print y
+abbrev pub unset-later : List ℕ
+unset-later = hex "00000024 01 01 0002 000161 000179 0002 0001 0000 00000001 44 01 0000 0001 0000 00000002 44 01 0001"
+
+pub unset-later-alike : Instance unset-later (some (int 5) ∷ none ∷ []) (some (int 5) ∷ none ∷ []) (go-on ∷ go-on ∷ []) 1
+unfolding code1 code2 with-code one-of two-of upd asInt asBool with-both with-one divide shift apply1 apply2 eval typeOf inRange addW subW mulW divW ltW value-of form digit-value bytes-from hex name-index literal arguments operands instr block name names length-field end contents read give _>>=_ here field text if-there times type-in id-bytes shape-of any at-most below length-test version-test names-test type-test text-length-test text-test saves-test code-test count-test literal-test all-text well-formed undigited reserved same-bytes among obeys well-typed body-types block-types accept reads numbered make-val val-to-instr save save-at handle-overwrite find get-val-num number-dest place by-form instr-lvn block-lvn is-save count-saves blocks-lvn saved-in made-from lvn folded fold1 fold2 is-int is-bool identity ordered simplify1 simplify2 simplify start new-number update-env rehome see gen-new-vals number-of home-of known-value known-expr known tick assign happens read-all finish take-value answered perform ask acknowledged tell leave choose act step run-block nth arrive passes through advance-from advance begin iterate run-with run xor ℕ-discrete are-bytes typed first-set all-same reached-in reached-from reached-with reached is-set all-set none-unset read-no-unset
+unset-later-alike = instance unset-later (some (int 5) ∷ none ∷ []) (some (int 5) ∷ none ∷ []) (go-on ∷ go-on ∷ []) 1 tt
+
+pub unset-later-read :
+    map (meets unset-later (some (int 5) ∷ none ∷ []) (some (int 5) ∷ none ∷ []) (go-on ∷ go-on ∷ [])) (0 ∷ 1 ∷ 2 ∷ 3 ∷ []) ≡
+    true ∷ true ∷ false ∷ false ∷ []
+unfolding code1 code2 with-code one-of two-of upd asInt asBool with-both with-one divide shift apply1 apply2 eval typeOf inRange addW subW mulW divW ltW value-of form digit-value bytes-from hex name-index literal arguments operands instr block name names length-field end contents read give _>>=_ here field text if-there times type-in id-bytes shape-of any at-most below length-test version-test names-test type-test text-length-test text-test saves-test code-test count-test literal-test all-text well-formed undigited reserved same-bytes among obeys well-typed body-types block-types accept reads numbered make-val val-to-instr save save-at handle-overwrite find get-val-num number-dest place by-form instr-lvn block-lvn is-save count-saves blocks-lvn saved-in made-from lvn folded fold1 fold2 is-int is-bool identity ordered simplify1 simplify2 simplify start new-number update-env rehome see gen-new-vals number-of home-of known-value known-expr known tick assign happens read-all finish take-value answered perform ask acknowledged tell leave choose act step run-block nth arrive passes through advance-from advance begin iterate run-with run xor ℕ-discrete are-bytes typed first-set all-same reached-in reached-from reached-with reached is-set all-set none-unset read-no-unset
+unset-later-read = refl
 
 -- ---- what the statement counts and compares
 abbrev rewritten-blocks : List ℕ → List (Block Instr)

@@ -59,8 +59,8 @@ pub record Starts (f : Function) (σ₁ σ₂ : Store) : Type 0 where
   pub set : (x : NameIx) → x .0 < f .args → (v : Val) × (σ₁ x ≡ some v)
   pub same : (x : NameIx) → x .0 < names-of f → σ₂ x ≡ σ₁ x
 
--- demand 3 for a function f and another, g: over every store, list of answers and number of blocks n such that
--- "the run has read no unset name by then"
+-- demand 3 for a function f and another, g: over every store, list of answers and number of blocks,
+-- "if the first run has read no unset name by then"
 abbrev pub RunAlike : Function → Function → Type 0
 RunAlike f g =
     (σ₁ σ₂ : Store) →
