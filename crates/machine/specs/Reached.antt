@@ -61,6 +61,6 @@ unfoldable pub none-unset : List Reached → Bool
 none-unset [] = true
 none-unset (c ∷ cs) = all-set (c .store) (c .instr .args) && none-unset cs
 
--- "the run has read no unset name by then": within n blocks
+-- "has read no unset name by then": within n blocks
 unfoldable pub read-no-unset : Function → Store → List Answer → ℕ → Bool
 read-no-unset f σ xs n = none-unset (reached f σ xs n)

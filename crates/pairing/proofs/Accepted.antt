@@ -9,6 +9,7 @@ use lib.ListN.{length, getD, length-map}
 use lib.Dec.{T, eqb}
 use lib.Ieee.Bits.{is-true}
 use borrow.Author.Tests.{eqb-true}
+use Rattle.arith.specs.Value.{tbool}
 use Rattle.arith.specs.Operation.{Expr, constant, one, two}
 use Rattle.arith.specs.Code.{code1, code2, with-code, one-of, two-of}
 use Rattle.record.specs.declared.NameIx.{NameIx}
@@ -17,11 +18,11 @@ use Rattle.record.specs.declared.Limits.{Limits}
 use Rattle.record.specs.Record.{nm, Bytes, Instr, Placed, Block, Record, function, plain, type-in, arg, limits}
 use Rattle.record.specs.Shape.{shape-of, value}
 use Rattle.record.specs.Reader.{got}
-use Rattle.record.specs.Form.{Form, pure, form, value-of}
+use Rattle.record.specs.Form.{Form, pure, branch, form, value-of}
 use Rattle.record.specs.Typing.{well-typed, accept}
 use Rattle.record.specs.Good.{There, Each, IndexOk, ArgsOk, OperandsOk, InstrOk, BlockOk, RecordOk}
 use Rattle.record.specs.Ranged.{RangedInstr, RangedBlock, Ranged}
-use Rattle.record.proofs.Tests.{and-left, and-right, at-most-le, below-lt, names-args, count-few, code-known, code-last}
+use Rattle.record.proofs.Tests.{and-left, and-right, at-most-le, below-lt, names-args, count-few, count-most, code-known, code-last}
 use Rattle.record.proofs.Form.{FormOf, of-constant, of-one, of-two, of-new, of-jump, of-branch, of-return, of-nop, of-effect, form-of, one-shape, two-shape, all-below, at-known}
 use Rattle.record.proofs.Accepted.{read-ok}
 use Rattle.record.proofs.Ranged.{read-ranged}
@@ -29,7 +30,7 @@ use Rattle.record.proofs.Typed.{TypedBody, TypedFunction, accept-typed}
 use Rattle.numbering.specs.Number.{reads}
 use Rattle.pairing.specs.Joint.{Typed}
 use Rattle.pairing.specs.Fit.{All, writes, terminates, FitInstr, FitBody, FitFunction}
-use Rattle.pairing.proofs.Rules.{one-typed, two-typed, fits-rule, constant-typed}
+use Rattle.pairing.proofs.Rules.{one-typed, two-typed, fits-rule, branch-rule, constant-typed}
 
 -- ---- forms and shapes agree
 abbrev same : Bool → Bool → Bool
@@ -66,6 +67,18 @@ indexes-below N (x ∷ xs) h = (below-lt N (x .0) (h .0), indexes-below N xs (h 
 empty : {A : Type 0} (xs : List A) → length xs ≡ 0 → xs ≡ []
 empty [] e = refl
 empty (x ∷ xs) e = absurd (omega arith)
+
+-- lists of one and of two
+first-only : {A : Type 0} (xs : List A) (d : A) → length xs ≡ 1 → getD xs 0 d ∷ [] ≡ xs
+first-only [] d e = absurd (omega arith)
+first-only (x ∷ []) d e = refl
+first-only (x ∷ y ∷ xs) d e = absurd (omega arith)
+
+two-only : {A : Type 0} (xs : List A) (d : A) → length xs ≡ 2 → getD xs 0 d ∷ getD xs 1 d ∷ [] ≡ xs
+two-only [] d e = absurd (omega arith)
+two-only (x ∷ []) d e = absurd (omega arith)
+two-only (x ∷ y ∷ []) d e = refl
+two-only (x ∷ y ∷ z ∷ xs) d e = absurd (omega arith)
 
 -- ---- an instruction that passes its tests
 module _ {N B left : ℕ} (t : NameIx → ℕ) (i : Instr) (ok : InstrOk N B left i) where
@@ -125,6 +138,31 @@ module _ {N B left : ℕ} (t : NameIx → ℕ) (i : Instr) (ok : InstrOk N B lef
   reads-below (of-nop e) = tt
   reads-below of-effect = args-below
 
+  -- a code that takes n arguments and no more has n
+  counted : (sh : Shape) → shape-of (i .code) ≡ sh → sh .literal ≡ false → sh .few ≡ sh .most → length (i .args) ≡ sh .few
+  counted sh e l n = go (sh .literal) l (operands-of sh e .args)
+    where
+      go : (b : Bool) → b ≡ false → There (not b) (ArgsOk N sh) [] (i .args) → length (i .args) ≡ sh .few
+      go true q h = let z : _≡_ {A = ℕ} 0 1 = cc in absurd (omega arith)
+      go false q h =
+          let few : sh .few ≤ length (i .args) = count-few sh (length (i .args)) (h .count) in
+          let most : length (i .args) ≤ sh .most = count-most sh (length (i .args)) (h .count) in
+          omega arith
+
+  all-args-read : {f : Form} → FormOf t i f → reads f ≡ i .args
+  unfolding reads shape-of
+  all-args-read (of-constant e) = sym (operands-of (shape-of 0) (ap shape-of e) .args)
+  all-args-read (of-one o e) =
+      first-only (i .args) (nm 0) (counted (value 1) (ap shape-of (sym e) ∙ one-shape o) refl refl)
+  all-args-read (of-two o e) =
+      two-only (i .args) (nm 0) (counted (value 2) (ap shape-of (sym e) ∙ two-shape o) refl refl)
+  all-args-read of-new = refl
+  all-args-read (of-jump e) = sym (empty (i .args) (counted (shape-of 64) (ap shape-of e) refl refl))
+  all-args-read (of-branch e) = first-only (i .args) (nm 0) (counted (shape-of 65) (ap shape-of e) refl refl)
+  all-args-read (of-return e) = refl
+  all-args-read (of-nop e) = sym (empty (i .args) (counted (shape-of 69) (ap shape-of e) refl refl))
+  all-args-read of-effect = refl
+
   -- ---- types
   module _ (range : i .lit .bits < 256 ^ 8) (rule : well-typed t i ≡ true) where
     form-typed : {f : Form} → FormOf t i f → (e : Expr NameIx) → f ≡ pure e → Typed t e (t (i .dest))
@@ -149,8 +187,29 @@ module _ {N B left : ℕ} (t : NameIx → ℕ) (i : Instr) (ok : InstrOk N B lef
     form-typed (of-nop c) e p = let z : _≡_ {A = ℕ} 0 1 = cc in absurd (omega arith)
     form-typed of-effect e p = let z : _≡_ {A = ℕ} 0 1 = cc in absurd (omega arith)
 
+    form-tested : {f : Form} → FormOf t i f → (x : NameIx) (b c : ℕ) → f ≡ branch x b c → t x ≡ tbool
+    form-tested (of-constant e) x b c p = let z : _≡_ {A = ℕ} 0 1 = cc in absurd (omega arith)
+    form-tested (of-one o e) x b c p = let z : _≡_ {A = ℕ} 0 1 = cc in absurd (omega arith)
+    form-tested (of-two o e) x b c p = let z : _≡_ {A = ℕ} 0 1 = cc in absurd (omega arith)
+    form-tested of-new x b c p = let z : _≡_ {A = ℕ} 0 1 = cc in absurd (omega arith)
+    form-tested (of-jump e) x b c p = let z : _≡_ {A = ℕ} 0 1 = cc in absurd (omega arith)
+    form-tested (of-branch e) x b c p =
+        let j : arg i 0 ≡ x = cc in
+        ap t (sym j) ∙ branch-rule t i e rule
+    form-tested (of-return e) x b c p = let z : _≡_ {A = ℕ} 0 1 = cc in absurd (omega arith)
+    form-tested (of-nop e) x b c p = let z : _≡_ {A = ℕ} 0 1 = cc in absurd (omega arith)
+    form-tested of-effect x b c p = let z : _≡_ {A = ℕ} 0 1 = cc in absurd (omega arith)
+
     pub instr-fit : FitInstr N t i
-    instr-fit = record { args = reads-below (form-of t i); dest = dest-below; shape = dest-writes; typed = form-typed (form-of t i) }
+    instr-fit =
+        record {
+          args = reads-below (form-of t i);
+          all-read = all-args-read (form-of t i);
+          dest = dest-below;
+          shape = dest-writes;
+          typed = form-typed (form-of t i);
+          tested = form-tested (form-of t i);
+        }
 
 -- ---- blocks and functions
 module _ (N B w : ℕ) (t : NameIx → ℕ) where

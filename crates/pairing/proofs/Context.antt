@@ -7,7 +7,7 @@ use mathlib.Core.List.{List, [], _∷_}
 use mathlib.Core.Option.{Option, none, some, Option·none-ne-some, Option·some-injective}
 use lib.Dec.{T, eqb}
 use Rattle.arith.specs.declared.One.the-variants.{Not, Id}
-use Rattle.arith.specs.Value.{Val}
+use Rattle.arith.specs.Value.{Val, tbool}
 use Rattle.arith.specs.Operation.{Expr, constant, one, two}
 use Rattle.record.specs.declared.NameIx.{NameIx}
 use Rattle.record.specs.Record.{Instr, Block}
@@ -21,6 +21,15 @@ use Rattle.pairing.specs.Fit.{All, writes, terminates, FitInstr, FitBody
 
 abbrev pub FitBlocks : ℕ → (NameIx → ℕ) → List (Block Instr) → Type 0
 FitBlocks N t bs = All (λ (b : Block Instr). FitBody N t (b .body)) bs
+
+-- a block that is found fits
+pub fit-nth :
+    (N : ℕ) (t : NameIx → ℕ) (bs : List (Block Instr)) → FitBlocks N t bs →
+    (n : ℕ) (b : Block Instr) → nth bs n ≡ some b → FitBody N t (b .body)
+unfolding nth
+fit-nth N t [] h n b e = absurd (Option·none-ne-some b e)
+fit-nth N t (x ∷ bs) h zero b e = subst (λ (z : Block Instr). FitBody N t (z .body)) (Option·some-injective x b e) (h .0)
+fit-nth N t (x ∷ bs) h (suc n) b e = fit-nth N t bs (h .1) n b e
 
 -- ---- forms
 -- the form of an instruction over whether it is a const
@@ -54,14 +63,21 @@ module _ (N : ℕ) (t t′ : NameIx → ℕ) (same : (x : NameIx) → x .0 < N �
       subst (Typed t′ e) (sym (same (i .dest) (h .dest (subst (λ f. T (writes f)) (sym p) tt))))
       (typed-cong e (t (i .dest)) (subst (λ f. All (λ x. x .0 < N) (reads f)) p (h .args)) (h .typed e p))
 
+  fit-tested : (i : Instr) → FitInstr N t i → (x : NameIx) (b c : ℕ) → form t i ≡ branch x b c → t′ x ≡ tbool
+  unfolding reads
+  fit-tested i h x b c p =
+      same x (subst (λ f. All (λ x. x .0 < N) (reads f)) p (h .args) .0) ∙ h .tested x b c p
+
   pub fit-instr : (i : Instr) → FitInstr N t i → FitInstr N t′ i
   fit-instr i h =
       let q = sym (fit-form i h) in
       record {
         args = subst (λ f. All (λ x. x .0 < N) (reads f)) q (h .args);
+        all-read = subst (λ f. reads f ≡ i .args) q (h .all-read);
         dest = subst (λ f. T (writes f) → i .dest .0 < N) q (h .dest);
         shape = subst (λ f. shape-of (i .code) .dest ≡ writes f) q (h .shape);
         typed = λ e p. fit-typed i h e (q ∙ p);
+        tested = λ x b c p. fit-tested i h x b c (q ∙ p);
       }
 
   pub fit-body : (is : List Instr) → FitBody N t is → FitBody N t′ is
@@ -122,15 +138,6 @@ module _ (N : ℕ) (c : Context) (t : NameIx → ℕ) (same : (x : NameIx) → x
       let rest : run-block (retyped c t) is (suc p) ≡ run-block c is (suc p) = fun-ext (run-block-cong is (h .1 .1) (suc p)) in
       λ k. after (q k) p (rest k)
 
-  -- a block that is found fits
-  fit-nth :
-      (bs : List (Block Instr)) → FitBlocks N (c .types) bs →
-      (n : ℕ) (b : Block Instr) → nth bs n ≡ some b → FitBody N (c .types) (b .body)
-  unfolding nth
-  fit-nth [] h n b e = absurd (Option·none-ne-some b e)
-  fit-nth (x ∷ bs) h zero b e = subst (λ (z : Block Instr). FitBody N (c .types) (z .body)) (Option·some-injective x b e) (h .0)
-  fit-nth (x ∷ bs) h (suc n) b e = fit-nth bs (h .1) n b e
-
   through-cong :
       (bs : List (Block Instr)) (b : ℕ) (l : List ℕ) (m : Mach) (o : Option (Block Instr)) →
       ((x : Block Instr) → o ≡ some x → FitBody N (c .types) (x .body)) →
@@ -143,7 +150,7 @@ module _ (N : ℕ) (c : Context) (t : NameIx → ℕ) (same : (x : NameIx) → x
       (bs : List (Block Instr)) → FitBlocks N (c .types) bs →
       (p : Place) (l : List ℕ) (m : Mach) → advance-from (retyped c t) bs p l m ≡ advance-from c bs p l m
   unfolding advance-from
-  advance-cong bs h (before b) l m = through-cong bs b l m (nth bs b) (fit-nth bs h b)
+  advance-cong bs h (before b) l m = through-cong bs b l m (nth bs b) (fit-nth N (c .types) bs h b)
   advance-cong bs h (stopped s b p) l m = refl
 
   pub run-with-cong :

@@ -27,6 +27,7 @@ use Rattle.pairing.proofs.Saving.{MadeTypes}
 use Rattle.pairing.proofs.Rewriting.{block-paired}
 use Rattle.pairing.proofs.Relation.{StartsIn}
 use Rattle.pairing.proofs.Runs.{runs-alike}
+use Rattle.pairing.proofs.Progress.{read-then-quiet}
 use Rattle.pairing.proofs.Context.{FitBlocks, fit-body, block-lvn-cong, run-with-cong}
 
 -- ---- an input's instructions
@@ -219,7 +220,8 @@ starts-retyped f σ₁ σ₂ s =
 
 pub demand3 : (f : Function) → FitFunction f → RunAlike f (lvn f)
 unfolding run
-demand3 f h σ₁ σ₂ s answers n quiet =
+demand3 f h σ₁ σ₂ s answers n read =
+    let quiet = read-then-quiet f h σ₁ (s .typed) answers n read in
     let e = run-retyped f h σ₁ answers n in
     subst (λ r. Agree (names-of f) (lvn f .blocks) r (run (lvn f) σ₂ answers n)) (sym e)
     (runs-alike (setting f) (f .blocks) (lvn f .blocks) (h .few) (lvn-paired f h) σ₁ σ₂ (starts-retyped f σ₁ σ₂ s) answers n

@@ -1,27 +1,26 @@
 -- Demand 3 is not empty: records, stores and answers that meet every premise of it, by computation.
-use Prim.Native.Nat.{ℕ, zero, suc, _<_, _≤_}
-use mathlib.Core.Path.{_≡_, refl, sym, ap, _∙_, subst}
-use mathlib.Core.Logic.{_≢_}
-use mathlib.Core.Bool.{Bool, true, false, _&&_, xor}
-use mathlib.Core.List.{List, [], _∷_, map}
+use Prim.Native.Nat.{ℕ, zero, suc, _<_}
+use mathlib.Core.Path.{_≡_, refl, sym, ap, subst}
+use mathlib.Core.Bool.{Bool, true, false, _&&_}
+use mathlib.Core.List.{List, [], _∷_}
 use mathlib.Core.Option.{Option, none, some}
-use native.Mathlib.Decide.{ℕ-discrete}
 use native.Mathlib.Omega.{arith}
-use lib.ListN.{length, getD}
+use lib.ListN.{getD}
 use lib.Dec.{T, ltb, ltb→lt}
+use lib.Ieee.Bits.{is-true}
 use Rattle.arith.specs.Map.{pick}
-use Rattle.arith.specs.Value.{Val, Val-discrete, has-type, HasType, int, bool}
-use Rattle.record.specs.declared.NameIx.{NameIx}
+use Rattle.arith.specs.Value.{Val, Val-discrete, HasType}
 use Rattle.record.specs.Record.{Bytes, Placed, Record, Function, function, plain, limits, names-of, type-in}
 use Rattle.record.specs.Reader.{Res, got, fault}
 use Rattle.record.specs.Typing.{accept}
 use Rattle.numbering.specs.Number.{lvn}
-use Rattle.machine.specs.Machine.{Store, Answer, Stop, at-end, at-ret, at-halt, at-unset, at-division, Place, before, stopped, run}
+use Rattle.machine.specs.Machine.{Answer, run}
+use Rattle.machine.specs.Reached.{is-set, read-no-unset}
 use Rattle.machine.specs.Examples.{store-of, function-of}
 use Rattle.pairing.proofs.Accepted.{accepted-fit}
 use Rattle.pairing.proofs.Functions.{demand3}
-use Rattle.pairing.specs.Demand.{Shown, next-block, stop, shown, Starts, Agree, RunAlike}
-use Rattle.pairing.specs.Premises.{accepted, are-bytes, value-fits, typed, is-set, all-set, same-value, all-same, not-unset, quiet}
+use Rattle.pairing.specs.Demand.{Starts, Agree, RunAlike}
+use Rattle.pairing.specs.Premises.{accepted, are-bytes, value-fits, typed, first-set, same-value, all-same}
 
 -- ---- tests and facts
 pub both : (a b : Bool) → T (a && b) → T a × T b
@@ -44,16 +43,16 @@ typed-at [] (o ∷ vs) p n v e = absurd p
 typed-at (t ∷ ts) (o ∷ vs) p zero v e = fits-value t o (both (value-fits t o) (typed ts vs) p .0) v e
 typed-at (t ∷ ts) (o ∷ vs) p (suc n) v e = typed-at ts vs (both (value-fits t o) (typed ts vs) p .1) n v e
 
-set-at : (n : ℕ) (vs : List (Option Val)) → T (all-set n vs) → (x : ℕ) → x < n → (v : Val) × (getD vs x none ≡ some v)
-unfolding all-set
+set-at : (n : ℕ) (vs : List (Option Val)) → T (first-set n vs) → (x : ℕ) → x < n → (v : Val) × (getD vs x none ≡ some v)
+unfolding first-set is-set
 set-at zero vs t x l = absurd (let z : 0 < 0 = omega arith in omega arith)
 set-at (suc n) [] t x l = absurd t
-set-at (suc n) (o ∷ vs) t zero l = held o (both (is-set o) (all-set n vs) t .0)
+set-at (suc n) (o ∷ vs) t zero l = held o (both (is-set o) (first-set n vs) t .0)
   where
     held : (o : Option Val) → T (is-set o) → (v : Val) × (o ≡ some v)
     held none p = absurd p
     held (some v) p = (v, refl)
-set-at (suc n) (o ∷ vs) t (suc x) l = set-at n vs (both (is-set o) (all-set n vs) t .1) x (omega arith)
+set-at (suc n) (o ∷ vs) t (suc x) l = set-at n vs (both (is-set o) (first-set n vs) t .1) x (omega arith)
 
 same-values : (o p : Option Val) → T (same-value o p) → p ≡ o
 same-values none none t = refl
@@ -73,23 +72,11 @@ same-at (suc n) (o ∷ vs) [] t x l = absurd t
 same-at (suc n) (o ∷ vs) (p ∷ ws) t zero l = same-values o p (both (same-value o p) (all-same n vs ws) t .0)
 same-at (suc n) (o ∷ vs) (p ∷ ws) t (suc x) l = same-at n vs ws (both (same-value o p) (all-same n vs ws) t .1) x (omega arith)
 
-quiet-stop : (s : Stop) → T (not-unset s) → stop s ≢ stop at-unset
-quiet-stop at-end t e = absurd (let z : _≡_ {A = ℕ} 0 1 = cc in omega arith)
-quiet-stop at-ret t e = absurd (let z : _≡_ {A = ℕ} 0 1 = cc in omega arith)
-quiet-stop at-halt t e = absurd (let z : _≡_ {A = ℕ} 0 1 = cc in omega arith)
-quiet-stop at-unset t e = t
-quiet-stop (at-division i c) t e = absurd (let z : _≡_ {A = ℕ} 0 1 = cc in omega arith)
-
-quiet-shown : (p : Place) → T (quiet p) → shown p ≢ stop at-unset
-unfolding shown
-quiet-shown (before b) t e = absurd (let z : _≡_ {A = ℕ} 0 1 = cc in omega arith)
-quiet-shown (stopped s b p) t e = quiet-stop s t e
-
 -- ---- the premises from the tests
 pub starts-from :
     (f : Function) (vs ws : List (Option Val)) →
     T (typed (f .types) vs) →
-    T (all-set (f .args) vs) →
+    T (first-set (f .args) vs) →
     T (all-same (names-of f) vs ws) →
     Starts f (store-of vs) (store-of ws)
 unfolding type-in
@@ -121,8 +108,8 @@ pub record Instance (s : List ℕ) (vs ws : List (Option Val)) (answers : List A
 abbrev pub meets : List ℕ → List (Option Val) → List (Option Val) → List Answer → ℕ → Bool
 meets s vs ws answers n =
     let f = function-of (accept limits s) in
-    are-bytes s && (accepted (accept limits s) && (typed (f .types) vs && (all-set (f .args) vs &&
-    (all-same (names-of f) vs ws && quiet (run f (store-of vs) answers n .place)))))
+    are-bytes s && (accepted (accept limits s) && (typed (f .types) vs && (first-set (f .args) vs &&
+    (all-same (names-of f) vs ws && read-no-unset f (store-of vs) answers n))))
 
 pub instance :
     (s : List ℕ) (vs ws : List (Option Val)) (answers : List Answer) (n : ℕ) →
@@ -133,10 +120,10 @@ instance s vs ws answers n t =
     let (b, t₁) = both (are-bytes s) _ t in
     let (a, t₂) = both (accepted (accept limits s)) _ t₁ in
     let (ty, t₃) = both (typed (f .types) vs) _ t₂ in
-    let (st, t₄) = both (all-set (f .args) vs) _ t₃ in
+    let (st, t₄) = both (first-set (f .args) vs) _ t₃ in
     let (sa, q) = both (all-same (names-of f) vs ws) _ t₄ in
     record {
       alike =
           record-alike s b a (store-of vs) (store-of ws) (starts-from f vs ws ty st sa) answers n
-          (quiet-shown (run f (store-of vs) answers n .place) q);
+          (is-true (read-no-unset f (store-of vs) answers n) q);
     }

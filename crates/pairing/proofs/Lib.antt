@@ -13,7 +13,10 @@ pub mod Written
 pub mod Numbers
 pub mod Saving
 pub mod Rewriting
+pub mod Operands
+pub mod Stores
 pub mod Context
+pub mod Progress
 pub mod Functions
 pub mod Rules
 pub mod Accepted
@@ -23,5 +26,6 @@ pub mod UnlikeRare
 pub mod UnlikePremise
 pub mod UnlikeSaves
 pub mod Computed
+pub mod NoProgress
 pub mod Theorems
 pub mod Contract

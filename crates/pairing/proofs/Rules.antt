@@ -84,6 +84,10 @@ module _ (t : NameIx → ℕ) (i : Instr) where
   unfolding obeys
   fits-rule e h = obeys-code 0 (sym e) h
 
+  pub branch-rule : i .code ≡ 65 → well-typed t i ≡ true → t (arg i 0) ≡ tbool
+  unfolding obeys
+  branch-rule e h = eqb-true (t (arg i 0)) tbool (obeys-code 65 (sym e) h)
+
 -- ---- constants
 has-type : (t : ℕ) (v : Val) → typeOf v ≡ t → inRange v ≡ true → HasType t v
 has-type t v e r = rw (eq-eqb (typeOf v) t e, r) tt

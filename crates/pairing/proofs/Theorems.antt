@@ -2,7 +2,8 @@
 -- The statements are in specs/Demand.antt; this file puts together what the other files prove.
 use Prim.Native.Nat.{ℕ, suc, _+_, _<_, _≤_}
 use mathlib.Core.Path.{_≡_, refl, sym, ap, _∙_, subst}
-use mathlib.Core.Logic.{_≢_}
+use mathlib.Core.Logic.{_≢_, _↔_}
+use mathlib.Core.Bool.{true}
 use mathlib.Core.List.{List, [], _∷_, _++_, map, map-append}
 use native.Mathlib.Nat.{add-zero}
 use lib.ListN.{length, getD, length-map}
@@ -28,9 +29,13 @@ use Rattle.numbering.proofs.Size.{rewriting-room}
 use Rattle.numbering.proofs.Output.{accepted-bytes, buffer-suffices}
 use Rattle.numbering.proofs.Made.{all-saves, made-length, saves-of, saves-args, names-from, saves-dests, lvn-makes}
 use Rattle.numbering.proofs.Differ.{texts-differ}
-use Rattle.pairing.specs.Demand.{RunAlike, SavesBounded}
+use Rattle.machine.specs.Machine.{Store, Answer, at-unset, run}
+use Rattle.machine.specs.Reached.{read-no-unset}
+use Rattle.pairing.specs.Demand.{shown, stop, Agree, TypedStore, Starts, RunAlike, SavesBounded}
 use Rattle.pairing.specs.Fit.{All}
+use Rattle.pairing.specs.Progress.{Progress}
 use Rattle.pairing.proofs.Accepted.{accepted-fit}
+use Rattle.pairing.proofs.Progress.{progress, read-then-quiet, quiet-then-read}
 use Rattle.pairing.proofs.Functions.{fit-blocks, saves-bounded, demand3}
 
 -- a list of bytes that check accepts, and the record that it is
@@ -40,9 +45,36 @@ pub record Accepted (s : List ℕ) (r : Record Placed) : Type 0 where
   pub accepted : accept limits s ≡ got r end
 
 -- Demand 3: the function of an accepted record and its rewriting run alike, from every typed store in which every argument is set,
--- with every list of answers, over every number of blocks, step counts included.
+-- with every list of answers, over every number of blocks in which the first run has read no unset name, step counts included.
 pub runs-alike : (s : List ℕ) (r : Record Placed) → Accepted s r → RunAlike (function (plain r)) (lvn (function (plain r)))
 runs-alike s r a = demand3 (function (plain r)) (accepted-fit s (a .bytes) r (a .end) (a .accepted))
+
+-- Progress: whatever the answers and the number of blocks, a run of an accepted function from a typed store leaves the store typed; and
+-- where it has stopped as unset, the instruction at that place has an argument that holds nothing. So no operation on values, no branch
+-- and no event stops as unset for another reason. That the function's arguments are set is not asked.
+pub runs-progress :
+    (s : List ℕ) (r : Record Placed) → Accepted s r → (σ : Store) → TypedStore (function (plain r)) σ →
+    (answers : List Answer) (n : ℕ) → Progress (function (plain r)) (run (function (plain r)) σ answers n)
+runs-progress s r a = progress (function (plain r)) (accepted-fit s (a .bytes) r (a .end) (a .accepted))
+
+-- The premise of demand 3 and the stop: such a run has read no unset name exactly as long as it has not stopped as unset.
+pub unset-read-or-stopped :
+    (s : List ℕ) (r : Record Placed) → Accepted s r → (σ : Store) → TypedStore (function (plain r)) σ → (answers : List Answer) (n : ℕ) →
+    (read-no-unset (function (plain r)) σ answers n ≡ true) ↔ (shown (run (function (plain r)) σ answers n .place) ≢ stop at-unset)
+unset-read-or-stopped s r a σ typed answers n =
+    let fit = accepted-fit s (a .bytes) r (a .end) (a .accepted) in (
+      read-then-quiet (function (plain r)) fit σ typed answers n,
+      quiet-then-read (function (plain r)) fit σ typed answers n,
+    )
+
+-- So demand 3 asks no more of a run than that it has not stopped as unset.
+pub runs-alike-unless-unset :
+    (s : List ℕ) (r : Record Placed) → Accepted s r → (σ₁ σ₂ : Store) → Starts (function (plain r)) σ₁ σ₂ → (answers : List Answer) (n : ℕ) →
+    shown (run (function (plain r)) σ₁ answers n .place) ≢ stop at-unset →
+    Agree (names-of (function (plain r))) (lvn (function (plain r)) .blocks) (run (function (plain r)) σ₁ answers n)
+    (run (lvn (function (plain r))) σ₂ answers n)
+runs-alike-unless-unset s r a σ₁ σ₂ starts answers n h =
+    runs-alike s r a σ₁ σ₂ starts answers n (unset-read-or-stopped s r a σ₁ (starts .typed) answers n .1 h)
 
 -- No block of the rewriting has more saves than the same block of the input has instructions with a destination.
 pub few-saves : (s : List ℕ) (r : Record Placed) → Accepted s r → SavesBounded (function (plain r)) (lvn (function (plain r)))

@@ -18,11 +18,12 @@ use Rattle.record.specs.Record.{nm, type-in}
 use Rattle.record.specs.Shape.{shape-of}
 use Rattle.numbering.specs.Number.{is-save, count-saves}
 use Rattle.machine.specs.Machine.{Store, go-on, tick, assign, happens, read-all, finish, take-value, answered, perform, ask, acknowledged, tell, leave, choose, act, step, run-block, nth, arrive, passes, through, advance-from, advance, begin, iterate, run-with, run}
+use Rattle.machine.specs.Reached.{reached-in, reached-from, reached-with, reached, is-set, all-set, none-unset, read-no-unset}
 use Rattle.pairing.specs.Demand.{shown, saves-passed, saves-before, Starts, RunAlike}
-use Rattle.pairing.specs.Premises.{typed, all-set, all-same}
+use Rattle.pairing.specs.Premises.{typed, first-set, all-same}
 use Rattle.pairing.specs.Wrong.{seen₁, seen₂}
 use Rattle.pairing.specs.Rare.{copies-unread, copies-early, greatest-argument, rare-argument, false-argument, reads-made, greatest-answer, writes-early, behind-answers, takes-bool, second-block, behind-loop, ordinary}
-use Rattle.pairing.proofs.Unlike.{unset-shown, agree, alike, Unlike, told, first-word, held, where-shown}
+use Rattle.pairing.proofs.Unlike.{agree, alike, Unlike, told, first-word, held, where-shown}
 
 pub record Rare : Type 0 where
   pub unread : Unlike copies-unread
@@ -38,7 +39,7 @@ pub record Rare : Type 0 where
   pub more-blocks : Unlike behind-loop
 
 pub rare-refused : Rare
-unfolding code1 code2 with-code one-of two-of upd asInt asBool with-both with-one divide shift apply1 apply2 eval typeOf inRange addW subW mulW divW ltW value-of form type-in shape-of is-save count-saves tick assign happens read-all finish take-value answered perform ask acknowledged tell leave choose act step run-block nth arrive passes through advance-from advance begin iterate run-with run xor ℕ-discrete typed all-set all-same shown unset-shown saves-passed saves-before
+unfolding code1 code2 with-code one-of two-of upd asInt asBool with-both with-one divide shift apply1 apply2 eval typeOf inRange addW subW mulW divW ltW value-of form type-in shape-of is-save count-saves tick assign happens read-all finish take-value answered perform ask acknowledged tell leave choose act step run-block nth arrive passes through advance-from advance begin iterate run-with run xor ℕ-discrete typed first-set all-same reached-in reached-from reached-with reached is-set all-set none-unset read-no-unset shown saves-passed saves-before
 rare-refused =
     record {
       unread = λ h. told length (alike copies-unread tt h .events) tt;
@@ -56,7 +57,7 @@ rare-refused =
 
 -- what else the same functions do
 pub ordinary-alike : map seen₁ ordinary ≡ map seen₂ ordinary
-unfolding code1 code2 with-code one-of two-of upd asInt asBool with-both with-one divide shift apply1 apply2 eval typeOf inRange addW subW mulW divW ltW value-of form type-in shape-of is-save count-saves tick assign happens read-all finish take-value answered perform ask acknowledged tell leave choose act step run-block nth arrive passes through advance-from advance begin iterate run-with run xor ℕ-discrete typed all-set all-same shown unset-shown saves-passed saves-before
+unfolding code1 code2 with-code one-of two-of upd asInt asBool with-both with-one divide shift apply1 apply2 eval typeOf inRange addW subW mulW divW ltW value-of form type-in shape-of is-save count-saves tick assign happens read-all finish take-value answered perform ask acknowledged tell leave choose act step run-block nth arrive passes through advance-from advance begin iterate run-with run xor ℕ-discrete typed first-set all-same reached-in reached-from reached-with reached is-set all-set none-unset read-no-unset shown saves-passed saves-before
 ordinary-alike = refl
 
 -- made names may hold anything: other things in the two stores, from which demand 3 starts
@@ -72,5 +73,5 @@ starts-bare w v =
     }
 
 pub made-names-differ : RunAlike reads-made reads-made → ⊥
-unfolding code1 code2 with-code one-of two-of upd asInt asBool with-both with-one divide shift apply1 apply2 eval typeOf inRange addW subW mulW divW ltW value-of form type-in shape-of is-save count-saves tick assign happens read-all finish take-value answered perform ask acknowledged tell leave choose act step run-block nth arrive passes through advance-from advance begin iterate run-with run xor ℕ-discrete typed all-set all-same shown unset-shown saves-passed saves-before
+unfolding code1 code2 with-code one-of two-of upd asInt asBool with-both with-one divide shift apply1 apply2 eval typeOf inRange addW subW mulW divW ltW value-of form type-in shape-of is-save count-saves tick assign happens read-all finish take-value answered perform ask acknowledged tell leave choose act step run-block nth arrive passes through advance-from advance begin iterate run-with run xor ℕ-discrete typed first-set all-same reached-in reached-from reached-with reached is-set all-set none-unset read-no-unset shown saves-passed saves-before
 made-names-differ h = told first-word (agree reads-made reads-made (all-hold 3) (all-hold 5) (go-on ∷ []) 1 (starts-bare 3 5) tt h .events) tt

@@ -1,8 +1,7 @@
 -- Demand 3 and the bound on saves, as statements about a function and its rewriting. The theorems are in proofs/.
 use Prim.Native.Nat.{ℕ, _+_, _≤_, _<_}
 use mathlib.Core.Path.{_≡_}
-use mathlib.Core.Logic.{_≢_}
-use mathlib.Core.Bool.{cond}
+use mathlib.Core.Bool.{true, cond}
 use mathlib.Core.List.{List, [], _∷_}
 use mathlib.Core.Option.{Option, none, some}
 use lib.ListN.{take}
@@ -10,8 +9,9 @@ use Rattle.arith.specs.Value.{Val, HasType}
 use Rattle.record.specs.declared.NameIx.{NameIx}
 use Rattle.record.specs.Record.{Instr, Block, Function, names-of, type-in}
 use Rattle.record.specs.Shape.{shape-of}
-use Rattle.numbering.specs.Number.{count-saves, lvn}
-use Rattle.machine.specs.Machine.{Store, Answer, Stop, at-unset, Place, before, stopped, Run, nth, run}
+use Rattle.numbering.specs.Number.{count-saves}
+use Rattle.machine.specs.Machine.{Store, Answer, Stop, Place, before, stopped, Run, nth, run}
+use Rattle.machine.specs.Reached.{read-no-unset}
 
 -- "the same next block or the same stop"
 pub data Shown : Type 0 where
@@ -49,19 +49,24 @@ pub record Agree (N : ℕ) (bs : List (Block Instr)) (r₁ r₂ : Run) : Type 0 
   pub passed : r₂ .passed ≡ r₁ .passed
   pub steps : r₂ .mach .steps ≡ r₁ .mach .steps + (saves-passed bs (r₂ .passed) + saves-before N bs (r₂ .place))
 
--- "the same typed store in which every argument is set"; made names may hold anything
+-- "Typed store: each name has a value of its type or nothing; made names may hold anything."
+abbrev pub TypedStore : Function → Store → Type 0
+TypedStore f σ = (x : NameIx) → x .0 < names-of f → (v : Val) → σ x ≡ some v → HasType (type-in (f .types) x) v
+
+-- "the same typed store in which every argument is set": the same on the original names
 pub record Starts (f : Function) (σ₁ σ₂ : Store) : Type 0 where
-  pub typed : (x : NameIx) → x .0 < names-of f → (v : Val) → σ₁ x ≡ some v → HasType (type-in (f .types) x) v
+  pub typed : TypedStore f σ₁
   pub set : (x : NameIx) → x .0 < f .args → (v : Val) × (σ₁ x ≡ some v)
   pub same : (x : NameIx) → x .0 < names-of f → σ₂ x ≡ σ₁ x
 
--- demand 3 for a function f and another, g: over every store, list of answers and number of blocks
+-- demand 3 for a function f and another, g: over every store, list of answers and number of blocks,
+-- "if the first run has read no unset name by then"
 abbrev pub RunAlike : Function → Function → Type 0
 RunAlike f g =
     (σ₁ σ₂ : Store) →
     Starts f σ₁ σ₂ →
     (answers : List Answer) (n : ℕ) →
-    shown (run f σ₁ answers n .place) ≢ stop at-unset →
+    read-no-unset f σ₁ answers n ≡ true →
     Agree (names-of f) (g .blocks) (run f σ₁ answers n) (run g σ₂ answers n)
 
 -- how many instructions have a destination

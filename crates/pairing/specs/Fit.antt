@@ -4,6 +4,7 @@ use mathlib.Core.Path.{_≡_}
 use mathlib.Core.Bool.{Bool, true, false}
 use mathlib.Core.List.{List, [], _∷_}
 use lib.Dec.{T}
+use Rattle.arith.specs.Value.{tbool}
 use Rattle.arith.specs.Operation.{Expr}
 use Rattle.record.specs.declared.NameIx.{NameIx}
 use Rattle.record.specs.Record.{Instr, Block, Function, names-of, type-in}
@@ -39,9 +40,12 @@ terminates (branch a b c) = true
 -- N: how many names there are; t: the type of each
 pub record FitInstr (N : ℕ) (t : NameIx → ℕ) (i : Instr) : Type 0 where
   pub args : All (λ x. x .0 < N) (reads (form t i))
+  -- what it reads is what it has as arguments
+  pub all-read : reads (form t i) ≡ i .args
   pub dest : T (writes (form t i)) → i .dest .0 < N
   pub shape : shape-of (i .code) .dest ≡ writes (form t i)
   pub typed : (e : Expr NameIx) → form t i ≡ pure e → Typed t e (t (i .dest))
+  pub tested : (x : NameIx) (b c : ℕ) → form t i ≡ branch x b c → t x ≡ tbool
 
 abbrev pub FitBody : ℕ → (NameIx → ℕ) → List Instr → Type 0
 FitBody N t [] = Unit {0}

@@ -4,3 +4,4 @@ pub mod Rare
 pub mod Joint
 pub mod Fit
 pub mod Premises
+pub mod Progress

@@ -3,15 +3,11 @@ use Prim.Native.Nat.{ℕ, zero, suc}
 use mathlib.Core.Bool.{Bool, true, false, _&&_}
 use mathlib.Core.List.{List, [], _∷_}
 use mathlib.Core.Option.{Option, none, some}
-use native.Mathlib.Decide.{ℕ-discrete}
 use lib.Dec.{ltb}
 use Rattle.arith.specs.Map.{pick}
 use Rattle.arith.specs.Value.{Val, Val-discrete, has-type}
-use Rattle.record.specs.Record.{Placed, Record, Function, limits}
+use Rattle.machine.specs.Reached.{is-set}
 use Rattle.record.specs.Reader.{Res, got, fault}
-use Rattle.record.specs.Typing.{accept}
-use Rattle.machine.specs.Machine.{Answer, Stop, at-end, at-ret, at-halt, at-unset, at-division, Place, before, stopped, run}
-use Rattle.machine.specs.Examples.{store-of, function-of}
 
 abbrev pub accepted : {A : Type 0} → Res A → Bool
 accepted (got x p) = true
@@ -31,15 +27,11 @@ typed ts [] = true
 typed [] (v ∷ vs) = false
 typed (t ∷ ts) (v ∷ vs) = value-fits t v && typed ts vs
 
-abbrev pub is-set : Option Val → Bool
-is-set none = false
-is-set (some v) = true
-
 -- the first n are set
-unfoldable pub all-set : ℕ → List (Option Val) → Bool
-all-set zero vs = true
-all-set (suc n) [] = false
-all-set (suc n) (v ∷ vs) = is-set v && all-set n vs
+unfoldable pub first-set : ℕ → List (Option Val) → Bool
+first-set zero vs = true
+first-set (suc n) [] = false
+first-set (suc n) (v ∷ vs) = is-set v && first-set n vs
 
 abbrev pub same-value : Option Val → Option Val → Bool
 same-value none none = true
@@ -53,14 +45,3 @@ all-same zero vs ws = true
 all-same (suc n) [] ws = false
 all-same (suc n) (v ∷ vs) [] = false
 all-same (suc n) (v ∷ vs) (w ∷ ws) = same-value v w && all-same n vs ws
-
-abbrev pub not-unset : Stop → Bool
-not-unset at-end = true
-not-unset at-ret = true
-not-unset at-halt = true
-not-unset at-unset = false
-not-unset (at-division i c) = true
-
-abbrev pub quiet : Place → Bool
-quiet (before b) = true
-quiet (stopped s b p) = not-unset s
