@@ -71,6 +71,7 @@ pub contract-meets-demands :
 contract-meets-demands s out out′ answer b e f =
     let d : Ends s out answer out′ = subst (λ a. Ends s out a out′) (sym e) (subst (Ends s out (rewrite s out)) (sym f) (three-ways s out)) in
     record {
+      bytes = b;
       ends = d;
       answers = e;
       leaves = f;

@@ -38,6 +38,8 @@ pub record WrittenAlike (s out out′ : List ℕ) (n k : ℕ) : Type 0 where
 
 -- The demands, of an input s, an output as it was lent and as it is left, and an answer.
 pub record DemandsMet (s out out′ : List ℕ) (answer : Rewritten) : Type 0 where
+  -- of the input nothing is asked: its numbers are bytes because it is a slice of bytes
+  pub bytes : Bytes s
   -- 1: "Every input ends in one of three ways."
   pub ends : Ends s out answer out′
   -- 2: "each accepted function has one rewriting, and exactly that is written"
