@@ -1,5 +1,5 @@
 -- A slice of u8 is a list of bytes: each of its elements, at whatever place, is a value of its type.
-use Prim.Native.Nat.{ℕ, zero, suc, _<_}
+use Prim.Native.Nat.{ℕ, suc, _<_}
 use mathlib.Core.List.{List, [], _∷_}
 use lib.ListN.{getD}
 use Rattle.record.specs.Record.{Bytes}

@@ -1,6 +1,6 @@
 -- Rewrite ends in exactly one of the three ways, for every input and output: read off its definition.
 use Prim.Native.Nat.{ℕ}
-use mathlib.Core.Path.{_≡_, refl, ap, _∙_}
+use mathlib.Core.Path.{_≡_, refl, sym, ap, _∙_}
 use mathlib.Core.Bool.{Bool, true, false, cond}
 use mathlib.Core.List.{List, _++_}
 use native.Mathlib.Omega.{arith}
@@ -13,6 +13,7 @@ use Rattle.record.specs.Record.{Placed, Record, plain, function, limits}
 use Rattle.record.specs.Reader.{Res, got, fault}
 use Rattle.record.specs.Typing.{accept}
 use Rattle.record.specs.Answer.{checked-as, checked}
+use Rattle.numbering.specs.declared.Rewritten.{Rewritten}
 use Rattle.numbering.specs.declared.Rewritten.the-variants.{Written, Refused, Room}
 use Rattle.numbering.specs.Number.{lvn}
 use Rattle.numbering.specs.Made.{made, rewriting}
@@ -128,3 +129,21 @@ three-ways s out =
       has-room = room-ends s out;
       same-length = leaves-length s out way;
     }
+
+-- and no other answer or output ends so
+pub ends-alone :
+    (s out : List ℕ) (answer : Rewritten) (left : List ℕ) →
+    Ends s out answer left → (answer ≡ rewrite s out) × (left ≡ rewrite-leaves s out)
+ends-alone s out answer left d = go (d .one-way)
+  where
+    same :
+        {a : Rewritten} {l : List ℕ} → (answer ≡ a) × (left ≡ l) → (rewrite s out ≡ a) × (rewrite-leaves s out ≡ l) →
+        (answer ≡ rewrite s out) × (left ≡ rewrite-leaves s out)
+    same e f = (e .0 ∙ sym (f .0), e .1 ∙ sym (f .1))
+
+    go :
+        ExactlyOne (Faulty s) (TooShort s (length out)) (HasRoom s (length out)) →
+        (answer ≡ rewrite s out) × (left ≡ rewrite-leaves s out)
+    go (first w b c) = same (d .faulty w) (faulty-ends s out w)
+    go (second a w c) = same (d .too-short w) (short-ends s out w)
+    go (third a b w) = same (d .has-room w) (room-ends s out w)

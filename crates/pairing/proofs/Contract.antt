@@ -3,11 +3,14 @@ use Prim.Native.Nat.{ℕ}
 use mathlib.Core.Path.{_≡_, sym, ap, _∙_, subst}
 use mathlib.Core.List.{List, _++_}
 use native.Mathlib.Omega.{arith}
-use lib.ListN.{length, take, drop}
+use lib.ListN.{length, take, drop, length-take, take-append-drop}
 use lib.Seq.{take-append-seam, drop-append-seam}
 use Rattle.record.specs.Record.{Bytes, plain, function, wide}
 use Rattle.record.specs.Reader.{got}
 use Rattle.record.specs.Read.{read}
+use Rattle.record.specs.Write.{bytes}
+use Rattle.record.proofs.Gives.{bytes-take}
+use Rattle.record.proofs.ReadFrom.{read-from, read-ends}
 use Rattle.numbering.specs.declared.Rewritten.{Rewritten}
 use Rattle.numbering.specs.declared.Rewritten.the-variants.{Written, Refused, Room}
 use Rattle.numbering.specs.Made.{rewriting}
@@ -63,6 +66,30 @@ written-run-alike s out out′ answer b d n k e =
       bounded = subst (SavesBounded (function (plain it))) (sym (back .rewritten)) (few-saves s it a);
       beyond = (λ i. drop (many i) (left i)) ∙ drop-append-seam new (drop n out);
     }
+
+-- Nothing else is told so: bytes that WrittenAlike is said of, in an output of the same length, are what rewrite leaves, and its answer.
+pub written-alone :
+    (s out out′ : List ℕ) (n k : ℕ) → Bytes out′ → length out′ ≡ length out → WrittenAlike s out out′ n k →
+    (Written n k ≡ rewrite s out) × (out′ ≡ rewrite-leaves s out)
+unfolding rewritten-bytes
+written-alone s out out′ n k b l a =
+    let new = rewritten-bytes (a .input) in
+    let t = take n out′ in
+    let same : t ≡ new = sym (read-from wide t (bytes-take n out′ b) (a .output) n (a .reads)) ∙ ap bytes (a .rewritten) in
+    let ends : n ≡ length t = read-ends wide t (bytes-take n out′ b) (a .output) n (a .reads) in
+    let many : n ≡ length new = ends ∙ ap length same in
+    let saves : k ≡ all-saves (rewriting (plain (a .input)) .blocks) = a .saves ∙ ap (λ r. all-saves (r .blocks)) (a .rewritten) in
+    let w : HasRoom s (length out) =
+    record {
+      it = a .input;
+      end = a .accepted .end;
+      accepted = a .accepted .accepted;
+      holds = omega (arith, many, ends, l, length-take n out′);
+    } in
+    let e = three-ways s out .has-room w in (
+      (λ i. Written (many i) (saves i)) ∙ sym (e .0),
+      sym (take-append-drop n out′) ∙ (λ i. same i ++ a .beyond i) ∙ ap (λ m. new ++ drop m out) many ∙ sym (e .1),
+    )
 
 -- For every input, output and answer: the two equations of rewrite's contract give the demands.
 pub contract-meets-demands :

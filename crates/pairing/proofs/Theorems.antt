@@ -19,6 +19,7 @@ use Rattle.record.proofs.Typed.{accept-typed}
 use Rattle.numbering.specs.Number.{block-lvn, count-saves, blocks-lvn, lvn}
 use Rattle.numbering.specs.State.{start}
 use Rattle.numbering.specs.Made.{made-name, made-names, made, rewriting}
+use Rattle.numbering.specs.declared.Rewritten.{Rewritten}
 use Rattle.numbering.specs.declared.Rewritten.the-variants.{Room}
 use Rattle.numbering.specs.Rewrite.{rewritten-bytes, rewrite, rewrite-leaves}
 use Rattle.numbering.specs.Ways.{all-saves, Ends}
@@ -28,7 +29,7 @@ use Rattle.numbering.proofs.Size.{rewriting-room}
 use Rattle.numbering.proofs.Output.{accepted-bytes, buffer-suffices}
 use Rattle.numbering.proofs.Made.{saves-of, saves-args, names-from, saves-dests, lvn-makes}
 use Rattle.numbering.proofs.Differ.{texts-differ}
-use Rattle.numbering.proofs.Ways.{three-ways, made-saves}
+use Rattle.numbering.proofs.Ways.{made-saves, three-ways, ends-alone}
 use Rattle.pairing.specs.Demand.{RunAlike, SavesBounded}
 use Rattle.pairing.specs.Contract.{Accepted}
 use Rattle.pairing.specs.Fit.{All}
@@ -39,6 +40,12 @@ use Rattle.pairing.proofs.Functions.{fit-blocks, saves-bounded, demand3
 -- needed, or the rewriting written with its length and all saves. The first two change no byte, the third none beyond; none the length.
 pub ends-in-one-way : (s out : List ℕ) → Ends s out (rewrite s out) (rewrite-leaves s out)
 ends-in-one-way = three-ways
+
+-- No other answer and no other output end so.
+pub ends-so-alone :
+    (s out : List ℕ) (answer : Rewritten) (left : List ℕ) →
+    Ends s out answer left → (answer ≡ rewrite s out) × (left ≡ rewrite-leaves s out)
+ends-so-alone = ends-alone
 
 -- Demand 3: the function of an accepted record and its rewriting run alike, from every typed store in which every argument is set,
 -- with every list of answers, over every number of blocks, step counts included.
