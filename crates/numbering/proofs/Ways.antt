@@ -27,6 +27,12 @@ unfolding rewriting lvn
 made-saves r = made-length (function (plain r)) (plain r .blocks) 0
 
 -- ---- no two ways at once
+-- what "exactly one" leaves out
+pub only-one : {A B C : Type 0} → ExactlyOne A B C → ¬ (A × B) × (¬ (A × C) × ¬ (B × C))
+only-one (first a b c) = (λ p. b (p .1), (λ p. c (p .1), λ p. b (p .0)))
+only-one (second a b c) = (λ p. a (p .0), (λ p. a (p .0), λ p. c (p .1)))
+only-one (third a b c) = (λ p. a (p .0), (λ p. a (p .0), λ p. b (p .0)))
+
 -- check's answer, back to what was read
 refused-as : (v : Res (Record Placed)) (k : Refusal) (o : ℕ) → checked-as v ≡ check.Refused k o → v ≡ fault k o
 refused-as (got r p) k o e = let z : _≡_ {A = ℕ} 0 1 = cc in absurd (omega arith)
@@ -39,8 +45,9 @@ faulty-read s w = refused-as (accept limits s) (w .reason) (w .offset) (w .refus
 not-both : (v : Res (Record Placed)) (k : Refusal) (o : ℕ) (r : Record Placed) (p : ℕ) → v ≡ fault k o → v ≡ got r p → ⊥
 not-both v k o r p e f = let z : _≡_ {A = ℕ} 0 1 = cc in omega arith
 
-same-record : (v : Res (Record Placed)) (r q : Record Placed) (p o : ℕ) → v ≡ got r p → v ≡ got q o → r ≡ q
-same-record v r q p o e f = cc
+-- a reader gives one value
+pub same-value : {A : Type 0} (v : Res A) (x y : A) (p q : ℕ) → v ≡ got x p → v ≡ got y q → x ≡ y
+same-value v x y p q e f = cc
 
 pub faulty-not-short : (s : List ℕ) (room : ℕ) → Faulty s → ¬ TooShort s room
 faulty-not-short s room w t = not-both (accept limits s) (w .reason) (w .offset) (t .it) (t .end) (faulty-read s w) (t .accepted)
@@ -50,7 +57,7 @@ faulty-no-room s room w h = not-both (accept limits s) (w .reason) (w .offset) (
 
 pub short-no-room : (s : List ℕ) (room : ℕ) → TooShort s room → ¬ HasRoom s room
 short-no-room s room t h =
-    let e = same-record (accept limits s) (t .it) (h .it) (t .end) (h .end) (t .accepted) (h .accepted) in
+    let e = same-value (accept limits s) (t .it) (h .it) (t .end) (h .end) (t .accepted) (h .accepted) in
     let n : length (rewritten-bytes (t .it)) ≡ length (rewritten-bytes (h .it)) = ap (λ r. length (rewritten-bytes r)) e in
     omega (arith, t .short, h .holds)
 

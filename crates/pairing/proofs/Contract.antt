@@ -5,9 +5,10 @@ use mathlib.Core.List.{List, _++_}
 use native.Mathlib.Omega.{arith}
 use lib.ListN.{length, take, drop, length-take, take-append-drop}
 use lib.Seq.{take-append-seam, drop-append-seam}
-use Rattle.record.specs.Record.{Bytes, plain, function, wide}
+use Rattle.record.specs.Record.{Bytes, Placed, Record, plain, function, limits, wide}
 use Rattle.record.specs.Reader.{got}
 use Rattle.record.specs.Read.{read}
+use Rattle.record.specs.Typing.{accept}
 use Rattle.record.specs.Write.{bytes}
 use Rattle.record.proofs.Gives.{bytes-take}
 use Rattle.record.proofs.ReadFrom.{read-from, read-ends}
@@ -16,8 +17,8 @@ use Rattle.numbering.specs.declared.Rewritten.the-variants.{Written, Refused, R
 use Rattle.numbering.specs.Made.{rewriting}
 use Rattle.numbering.specs.Rewrite.{rewritten-bytes, rewrite, rewrite-leaves}
 use Rattle.numbering.specs.Ways.{all-saves, Faulty, TooShort, HasRoom, ExactlyOne, first, second, third, Ends}
-use Rattle.numbering.proofs.Ways.{three-ways}
-use Rattle.pairing.specs.Demand.{SavesBounded}
+use Rattle.numbering.proofs.Ways.{same-value, three-ways}
+use Rattle.pairing.specs.Demand.{RunAlike, SavesBounded}
 use Rattle.pairing.specs.Contract.{Accepted, WrittenAlike, DemandsMet}
 use Rattle.pairing.proofs.Theorems.{few-saves, reads-as-rewriting, bytes-run-alike, program-has-room}
 
@@ -105,3 +106,18 @@ contract-meets-demands s out out′ answer b e f =
       written = written-run-alike s out out′ answer b d;
       suffices = λ l o n r. program-has-room s out b l o n (sym e ∙ r);
     }
+
+-- the functions of two records run alike, with the bound on saves
+abbrev pub RunAs : Record Placed → Record Placed → Type 0
+RunAs r q = RunAlike (function (plain r)) (function (plain q)) × SavesBounded (function (plain r)) (function (plain q))
+
+-- So whoever reads the input, and the first n bytes of the output with the wider limits, has two such records.
+pub readers-run-alike :
+    (s out out′ : List ℕ) (answer : Rewritten) → DemandsMet s out out′ answer →
+    (n k : ℕ) → answer ≡ Written n k →
+    (r q : Record Placed) (p m : ℕ) → accept limits s ≡ got r p → read wide (take n out′) 0 ≡ got q m → RunAs r q
+readers-run-alike s out out′ answer d n k e r q p m f g =
+    let a = d .written n k e in
+    let x : a .input ≡ r = same-value (accept limits s) (a .input) r (a .accepted .end) p (a .accepted .accepted) f in
+    let y : a .output ≡ q = same-value (read wide (take n out′) 0) (a .output) q n m (a .reads) g in
+    subst (RunAs r) y (subst (λ z. RunAs z (a .output)) x (a .alike, a .bounded))
