@@ -13,3 +13,4 @@ pub mod Size
 pub mod Range
 pub mod Output
 pub mod Differ
+pub mod Ways

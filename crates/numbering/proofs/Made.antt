@@ -12,6 +12,7 @@ use Rattle.record.specs.declared.NameIx.{NameIx}
 use Rattle.record.specs.Record.{nm, Instr, Block, Function, names-of, type-in, arg}
 use Rattle.numbering.specs.State.{start}
 use Rattle.numbering.specs.Number.{block-lvn, is-save, count-saves, blocks-lvn, saved-in, made-from, lvn}
+use Rattle.numbering.specs.Ways.{all-saves}
 use Rattle.numbering.proofs.Saves.{Originals, Makes, no-more, a-save, another, block-makes, block-temps}
 
 -- ---- what the saves of a list save
@@ -67,11 +68,6 @@ blocks-make f (b ∷ bs) k h =
       subst (λ n. MakesAll N n (blocks-lvn f (q .temps) bs)) (block-temps N t (b .body) (start (f .args) k) (h .0))
           (blocks-make f bs (q .temps) (h .1)),
     )
-
--- the saves fields of all blocks, added up
-abbrev pub all-saves : List (Block Instr) → ℕ
-all-saves [] = 0
-all-saves (b ∷ bs) = b .saves + all-saves bs
 
 -- K behind the last block
 abbrev pub temps-behind : Function → ℕ → List (Block Instr) → ℕ

@@ -15,8 +15,9 @@ use Rattle.record.proofs.Tests.{at-most-le, le-at-most, names-limit, names-args
 use Rattle.numbering.specs.State.{start}
 use Rattle.numbering.specs.Number.{block-lvn, blocks-lvn, lvn}
 use Rattle.numbering.specs.Made.{made-names, made, rewriting}
+use Rattle.numbering.specs.Ways.{all-saves}
 use Rattle.numbering.proofs.Codes.{body-originals}
-use Rattle.numbering.proofs.Made.{OriginalBlocks, lvn-makes, all-saves, temps-behind, made-length, made-temps, made-below}
+use Rattle.numbering.proofs.Made.{OriginalBlocks, lvn-makes, temps-behind, made-length, made-temps, made-below}
 use Rattle.numbering.proofs.Homes.{start-homed}
 use Rattle.numbering.proofs.Passes.{LiteralOk, block-passes, block-few}
 use Rattle.numbering.proofs.Names.{names-wider, names-append, input-fresh, made-names-pass, made-names-length}

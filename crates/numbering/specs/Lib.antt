@@ -4,6 +4,7 @@ pub mod Number
 pub mod Made
 pub mod Rewrite
 pub mod NameText
+pub mod Ways
 pub mod Program
 pub mod Examples
 pub mod Folds

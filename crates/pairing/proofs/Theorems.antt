@@ -11,7 +11,6 @@ use Rattle.record.specs.declared.NameIx.{NameIx}
 use Rattle.record.specs.Record.{Bytes, Instr, Placed, Block, Name, Record, Function, plain, function, texts, names-of, type-in, arg, limits, wide}
 use Rattle.record.specs.Reader.{got}
 use Rattle.record.specs.Read.{read}
-use Rattle.record.specs.Typing.{accept}
 use Rattle.record.specs.Write.{bytes}
 use Rattle.record.specs.Good.{RecordOk}
 use Rattle.record.proofs.Accepted.{read-ok}
@@ -21,28 +20,37 @@ use Rattle.record.proofs.Typed.{accept-typed}
 use Rattle.numbering.specs.Number.{block-lvn, count-saves, blocks-lvn, lvn}
 use Rattle.numbering.specs.State.{start}
 use Rattle.numbering.specs.Made.{made-name, made-names, made, rewriting}
+use Rattle.numbering.specs.declared.Rewritten.{Rewritten}
 use Rattle.numbering.specs.declared.Rewritten.the-variants.{Room}
-use Rattle.numbering.specs.Rewrite.{rewritten-bytes, rewrite}
+use Rattle.numbering.specs.Rewrite.{rewritten-bytes, rewrite, rewrite-leaves}
+use Rattle.numbering.specs.Ways.{all-saves, Ends}
 use Rattle.numbering.specs.Program.{most-input, buffer-size}
 use Rattle.numbering.proofs.Wide.{rewriting-passes}
 use Rattle.numbering.proofs.Size.{rewriting-room}
 use Rattle.numbering.proofs.Output.{accepted-bytes, buffer-suffices}
-use Rattle.numbering.proofs.Made.{all-saves, made-length, saves-of, saves-args, names-from, saves-dests, lvn-makes}
+use Rattle.numbering.proofs.Made.{saves-of, saves-args, names-from, saves-dests, lvn-makes}
 use Rattle.numbering.proofs.Differ.{texts-differ}
+use Rattle.numbering.proofs.Ways.{made-saves, three-ways, ends-alone}
 use Rattle.machine.specs.Machine.{Store, Answer, at-unset, run}
 use Rattle.machine.specs.Reached.{read-no-unset}
 use Rattle.pairing.specs.Demand.{shown, stop, Agree, TypedStore, Starts, RunAlike, SavesBounded}
+use Rattle.pairing.specs.Contract.{Accepted}
 use Rattle.pairing.specs.Fit.{All}
 use Rattle.pairing.specs.Progress.{Progress}
 use Rattle.pairing.proofs.Accepted.{accepted-fit}
 use Rattle.pairing.proofs.Progress.{progress, read-then-quiet, quiet-then-read}
 use Rattle.pairing.proofs.Functions.{fit-blocks, saves-bounded, demand3}
 
--- a list of bytes that check accepts, and the record that it is
-pub record Accepted (s : List ℕ) (r : Record Placed) : Type 0 where
-  pub bytes : Bytes s
-  pub end : ℕ
-  pub accepted : accept limits s ≡ got r end
+-- Demand 1: rewrite ends in exactly one of three ways, for every input and output: check's refusal with its reason and offset, the bytes
+-- needed, or the rewriting written with its length and all saves. The first two change no byte, the third none beyond; none the length.
+pub ends-in-one-way : (s out : List ℕ) → Ends s out (rewrite s out) (rewrite-leaves s out)
+ends-in-one-way = three-ways
+
+-- No other answer and no other output end so.
+pub ends-so-alone :
+    (s out : List ℕ) (answer : Rewritten) (left : List ℕ) →
+    Ends s out answer left → (answer ≡ rewrite s out) × (left ≡ rewrite-leaves s out)
+ends-so-alone = ends-alone
 
 -- Demand 3: the function of an accepted record and its rewriting run alike, from every typed store in which every argument is set,
 -- with every list of answers, over every number of blocks in which the first run has read no unset name, step counts included.
@@ -167,7 +175,7 @@ names-made s r a =
     let dests : map (λ i. i .dest) (saves-of (names-of f) (lvn f .blocks)) ≡ names-from (names-of f) (length (made (plain r))) =
     saves-dests (names-of f) 0 (lvn f .blocks) makes ∙ ap (λ n. names-from n (length (made (plain r)))) (add-zero (names-of f)) in
     record {
-      count = made-length f (plain r .blocks) 0;
+      count = made-saves r;
       table = refl;
       saved = subst (λ n. map (λ i. arg i 0) (saves-of n (lvn f .blocks)) ≡ made (plain r)) N (saves-args (names-of f) (lvn f .blocks));
       indexes = subst (λ n. map (λ i. i .dest) (saves-of n (lvn f .blocks)) ≡ names-from n (length (made (plain r)))) N dests;

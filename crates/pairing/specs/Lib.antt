@@ -1,4 +1,5 @@
 pub mod Demand
+pub mod Contract
 pub mod Wrong
 pub mod Rare
 pub mod Joint
