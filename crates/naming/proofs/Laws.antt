@@ -300,6 +300,7 @@ module _ (b : Bool) (input rewriting : List ℕ) (x : ℕ) (h : x ≤ length (co
   pub in-input : b ≡ false → x ≤ length input
   in-input e = subst (λ (b : Bool). x ≤ length (cond b rewriting input)) e h
 
+-- the bytes of the part that is handed back
 module _ (input rewriting : List ℕ) (t u : NameText) (same : t ≡ u) where
   pub text-bytes : (s : List ℕ) (d : ℕ) → s ≡ cond (t .part .rewriting) rewriting input → d ≡ t .part .count →
       take d (drop (t .part .from) s) ≡ bytes-of input rewriting (u .part)
