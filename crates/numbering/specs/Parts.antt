@@ -75,6 +75,8 @@ pub texts-found :
     -- empty texts
     (two, ("0000000A 01 00 0003 00 00 00 00 00 00", 1)) ∷
     (two, ("0000000A 01 00 0003 00 00 00 00 00 00", 2)) ∷
+    -- a text of 33 bytes, more than an input may have
+    (smallest, ("00000027 01 00 0001 00 21 616161616161616161616161616161616161616161616161616161616161616161", 0)) ∷
     -- A 255, types that are none, a text twice and texts of any bytes; bytes behind the names that are no blocks
     (two, ("00000011 01 FF 0003 FF 01 61 04 01 61 08 03 6100FF FFFF", 2)) ∷
     (two, ("0000000E 01 00 0002 00 01 61 00 01 61 FF FF FF FF", 0)) ∷
@@ -96,6 +98,7 @@ pub texts-found :
     of-rewriting 16 5 "6D61646530" ∷
     of-input 13 2 "6262" ∷
     of-rewriting 14 0 "" ∷
+    of-rewriting 10 33 "616161616161616161616161616161616161616161616161616161616161616161" ∷
     of-rewriting 16 3 "6100FF" ∷
     of-input 10 1 "61" ∷
     of-rewriting 10 0 "" ∷
