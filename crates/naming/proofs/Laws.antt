@@ -28,7 +28,7 @@ use Rattle.record.proofs.Following.{read-no, read-is, here-is, made}
 use Rattle.numbering.specs.declared.Named.{Named}
 use Rattle.numbering.specs.declared.Named.the-variants.{Text, Refused, Mismatch}
 use Rattle.numbering.specs.NameText.{Part, NameText, name-part, parts-of, nth-part, choose, from-parts, refused, headed, with-input, name-text, bytes-of}
-use Rattle.naming.specs.Found.{part-at, part-from}
+use Rattle.naming.specs.Found.{part-at, part-from, starts-at}
 
 -- ---- one name
 -- a text that is not looked at is a field that is not looked at
@@ -300,7 +300,13 @@ module _ (b : Bool) (input rewriting : List ℕ) (x : ℕ) (h : x ≤ length (co
   pub in-input : b ≡ false → x ≤ length input
   in-input e = subst (λ (b : Bool). x ≤ length (cond b rewriting input)) e h
 
+-- the bytes of the part that is handed back
 module _ (input rewriting : List ℕ) (t u : NameText) (same : t ≡ u) where
   pub text-bytes : (s : List ℕ) (d : ℕ) → s ≡ cond (t .part .rewriting) rewriting input → d ≡ t .part .count →
       take d (drop (t .part .from) s) ≡ bytes-of input rewriting (u .part)
   text-bytes s d e f = (λ j. take (f j) (drop (t .part .from) (e j))) ∙ ap (λ (t : NameText). bytes-of input rewriting (t .part)) same
+
+  -- and where they stand
+  pub text-starts : (i r at : ℕ × ℕ) → at ≡ cond (t .part .rewriting) r i → (at .0, t .part .from + at .1) ≡ starts-at i r (u .part)
+  text-starts i r at e =
+      ap (λ (at : ℕ × ℕ). (at .0, t .part .from + at .1)) e ∙ ap (λ (t : NameText). starts-at i r (t .part)) same

@@ -1,4 +1,4 @@
--- What the code finds, as the definition's record, and the part of a name by the bytes of its record alone.
+-- What the code finds, as the definition's record, where in memory a part starts, and the part of a name by the bytes of its record alone.
 use Prim.Native.Nat.{ℕ, _+_, _≤_}
 use mathlib.Core.Bool.{Bool, cond}
 use mathlib.Core.List.{List}
@@ -15,6 +15,10 @@ found f = record { answer = f .answer; part = record { rewriting = f .rewriting;
 -- the part lies within its record
 abbrev pub within : Found → List ℕ → List ℕ → Type 0
 within f input rewriting = f .from + f .count ≤ length (cond (f .rewriting) rewriting input)
+
+-- where a part of two lent slices starts, given where each of them does: a block of memory and an offset in it, as the logic has a pointer
+abbrev pub starts-at : ℕ × ℕ → ℕ × ℕ → Part → ℕ × ℕ
+starts-at input rewriting p = let at = cond (p .rewriting) rewriting input in (at .0, p .from + at .1)
 
 -- the part of the name at p
 abbrev pub part-at : Bool → List ℕ → ℕ → Part

@@ -8,12 +8,13 @@ ghost use mathlib.Core.Path.{_≡_};
 ghost use mathlib.Core.Bool.{Bool, true, false, cond};
 ghost use Prim.Native.Nat.{ℕ, _+_, _*_, _<_, _≤_};
 ghost use lib.ListN.{length};
+ghost use denote.Ref.{ptr};
 ghost use Rattle.record.specs.Reader.{num-at};
 ghost use Rattle.record.specs.Answer.{verdict};
 ghost use Rattle.record.specs.declared.Next.the-variants.{At};
 ghost use Rattle.record.specs.Decode.{behind, name-end, names-count};
 ghost use Rattle.numbering.specs.NameText.{name-part, parts-of, headed, refused, from-parts, name-text, bytes-of};
-ghost use Rattle.naming.specs.Found.{found, within, part-from};
+ghost use Rattle.naming.specs.Found.{found, within, part-from, starts-at};
 
 // The answer, and a part of the input or of the rewriting.
 pub struct Found {
@@ -172,9 +173,10 @@ pub fn name_answer(input: &[u8], rewriting: &[u8], index: usize) -> Named
     f.answer
 }
 
-// The text of a name; a refusal hands back the empty part at the input's start.
+// The text of a name, by its bytes and by where they stand; a refusal hands back the empty part at the input's start.
 pub fn name_text<'a>(input: &'a [u8], rewriting: &'a [u8], index: usize) -> &'a [u8]
-    ensures { λ r. ⌜ now r ≡ bytes-of (now (input .entry)) (now (rewriting .entry)) (name-text (now (input .entry)) (now (rewriting .entry)) index .part) ⌝ }
+    ensures { λ r. ⌜ (now r ≡ bytes-of (now (input .entry)) (now (rewriting .entry)) (name-text (now (input .entry)) (now (rewriting .entry)) index .part))
+        × (ptr r ≡ starts-at (ptr (input .entry)) (ptr (rewriting .entry)) (name-text (now (input .entry)) (now (rewriting .entry)) index .part)) ⌝ }
 {
     let f = part_of(input, rewriting, index);
     if f.rewriting {

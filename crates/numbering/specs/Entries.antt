@@ -1,4 +1,4 @@
--- Rewrite, name text and the program by example: refusals, untouched bytes, parts and lines; and the samples whose runs are computed.
+-- Rewrite and the program by example: refusals, untouched bytes and lines; and the samples whose runs are computed.
 use Prim.Native.Nat.{ℕ}
 use mathlib.Core.Path.{_≡_, refl}
 use mathlib.Core.Bool.{Bool, true, false, xor}
@@ -11,7 +11,7 @@ use Rattle.arith.specs.Map.{upd}
 use Rattle.arith.specs.Operation.{asInt, asBool, with-both, with-one, divide, shift, apply1, apply2, eval}
 use Rattle.arith.specs.Value.{typeOf, inRange}
 use Rattle.arith.specs.Word.{addW, subW, mulW, divW, ltW}
-use Rattle.record.specs.Answer.{Returned, number, check-answer, checked, literal-of}
+use Rattle.record.specs.Answer.{number, check-answer, checked, literal-of}
 use Rattle.record.specs.Form.{value-of, form}
 use Rattle.record.specs.Hex.{digit-value, bytes-from, hex}
 use Rattle.record.specs.Read.{name-index, literal, arguments, operands, instr, block, name, names, length-field, end, contents, read}
@@ -23,7 +23,7 @@ use Rattle.record.specs.Text.{all-text, well-formed, undigited, reserved, same-
 use Rattle.record.specs.Typing.{obeys, well-typed, body-types, block-types, accept}
 use Rattle.record.specs.Write.{be, join, when, index-bytes, literal-bytes, argument-bytes, operand-bytes, instr-bytes, block-bytes, name-bytes, content-bytes, bytes}
 use Rattle.numbering.specs.Made.{digits-of, digits, made-text, made-name, made-names, rewriting}
-use Rattle.numbering.specs.NameText.{NameText, bytes-of, name-answer, name-part, choose, from-parts, with-input, name-text}
+use Rattle.numbering.specs.NameText.{name-answer, name-part, choose, from-parts, with-input, name-text}
 use Rattle.numbering.specs.Number.{reads, numbered, make-val, val-to-instr, save, save-at, handle-overwrite, find, get-val-num, number-dest, place, by-form, instr-lvn, block-lvn, is-save, count-saves, blocks-lvn, saved-in, made-from, lvn}
 use Rattle.numbering.specs.Program.{refused-line, shown, output-with, program-output}
 use Rattle.numbering.specs.Rewrite.{rewrite-answer, rewritten-bytes, rewrite-result, rewrite-output, rewrite, rewrite-leaves}
@@ -95,46 +95,3 @@ lines = refl
 pub longest : prints (replicate 8192 0) ≡ hex "72 65 66 75 73 65 64 20 31 20 61 74 20 30 0A"
 unfolding code1 code2 with-code one-of two-of upd asInt asBool with-both with-one divide shift apply1 apply2 eval typeOf inRange addW subW mulW divW ltW number check-answer checked literal-of value-of form digit-value bytes-from hex name-index literal arguments operands instr block name names length-field end contents read give _>>=_ here field text if-there times type-in id-bytes shape-of any at-most below length-test version-test names-test type-test text-length-test text-test saves-test code-test count-test literal-test all-text well-formed undigited reserved same-bytes among obeys well-typed body-types block-types accept be join when index-bytes literal-bytes argument-bytes operand-bytes instr-bytes block-bytes name-bytes content-bytes bytes digits-of digits made-text made-name made-names rewriting name-answer name-part choose from-parts with-input name-text reads numbered make-val val-to-instr save save-at handle-overwrite find get-val-num number-dest place by-form instr-lvn block-lvn is-save count-saves blocks-lvn saved-in made-from lvn refused-line shown output-with program-output rewrite-answer rewritten-bytes rewrite-result rewrite-output rewrite rewrite-leaves folded fold1 fold2 is-int is-bool identity ordered simplify1 simplify2 simplify start new-number update-env rehome see gen-new-vals number-of home-of known-value known-expr known xor ℕ-discrete
 longest = refl
-
--- ---- name text
--- a and b; its rewriting could be this, with b spelt otherwise and one name more
-abbrev pub two-names : List ℕ
-two-names = hex "0000000D 01 00 0002 00 01 61 00 02 6262 0000"
-
-abbrev pub three-names : List ℕ
-three-names = hex "00000013 01 00 0003 00 01 61 00 01 63 00 05 6D616465 30 0000"
-
-abbrev pub text-at : List ℕ → List ℕ → ℕ → Returned × List ℕ
-text-at s t i = let r = name-text s t i in (name-answer (r .answer), bytes-of s t (r .part))
-
-abbrev pub found : Returned
-found = record { number = 0; values = [] }
-
-abbrev pub refused : ℕ → ℕ → Returned
-refused k o = record { number = k; values = o ∷ [] }
-
--- below N the input's, from N the rewriting's; then 6
-pub texts-found :
-    map (text-at two-names three-names) (0 ∷ 1 ∷ 2 ∷ 3 ∷ 99999 ∷ []) ≡
-    (found, hex "61") ∷ (found, hex "6262") ∷ (found, hex "6D616465 30") ∷ (refused 6 0, []) ∷ (refused 6 0, []) ∷ []
-unfolding code1 code2 with-code one-of two-of upd asInt asBool with-both with-one divide shift apply1 apply2 eval typeOf inRange addW subW mulW divW ltW number check-answer checked literal-of value-of form digit-value bytes-from hex name-index literal arguments operands instr block name names length-field end contents read give _>>=_ here field text if-there times type-in id-bytes shape-of any at-most below length-test version-test names-test type-test text-length-test text-test saves-test code-test count-test literal-test all-text well-formed undigited reserved same-bytes among obeys well-typed body-types block-types accept be join when index-bytes literal-bytes argument-bytes operand-bytes instr-bytes block-bytes name-bytes content-bytes bytes digits-of digits made-text made-name made-names rewriting name-answer name-part choose from-parts with-input name-text reads numbered make-val val-to-instr save save-at handle-overwrite find get-val-num number-dest place by-form instr-lvn block-lvn is-save count-saves blocks-lvn saved-in made-from lvn refused-line shown output-with program-output rewrite-answer rewritten-bytes rewrite-result rewrite-output rewrite rewrite-leaves folded fold1 fold2 is-int is-bool identity ordered simplify1 simplify2 simplify start new-number update-env rehome see gen-new-vals number-of home-of known-value known-expr known xor ℕ-discrete
-texts-found = refl
-
--- 11: seven bytes; L wrong; another version; a name above the index past the end; too few names. An empty text passes
-pub mismatches :
-    map (λ t. text-at two-names t 0)
-    (hex "00000003 01 00 00" ∷
-    hex "00000005 01 00 0000" ∷
-    hex "00000004 02 00 0002" ∷
-    hex "0000000D 01 00 0003 00 01 61 00 01 63 00 05 6D" ∷
-    hex "00000007 01 00 0001 00 01 61" ∷
-    hex "00000009 01 00 0002 00 01 61 00 00" ∷
-    []) ≡
-    (refused 11 0, []) ∷ (refused 11 0, []) ∷ (refused 11 0, []) ∷ (refused 11 0, []) ∷ (refused 11 0, []) ∷ (found, hex "61") ∷ []
-unfolding code1 code2 with-code one-of two-of upd asInt asBool with-both with-one divide shift apply1 apply2 eval typeOf inRange addW subW mulW divW ltW number check-answer checked literal-of value-of form digit-value bytes-from hex name-index literal arguments operands instr block name names length-field end contents read give _>>=_ here field text if-there times type-in id-bytes shape-of any at-most below length-test version-test names-test type-test text-length-test text-test saves-test code-test count-test literal-test all-text well-formed undigited reserved same-bytes among obeys well-typed body-types block-types accept be join when index-bytes literal-bytes argument-bytes operand-bytes instr-bytes block-bytes name-bytes content-bytes bytes digits-of digits made-text made-name made-names rewriting name-answer name-part choose from-parts with-input name-text reads numbered make-val val-to-instr save save-at handle-overwrite find get-val-num number-dest place by-form instr-lvn block-lvn is-save count-saves blocks-lvn saved-in made-from lvn refused-line shown output-with program-output rewrite-answer rewritten-bytes rewrite-result rewrite-output rewrite rewrite-leaves folded fold1 fold2 is-int is-bool identity ordered simplify1 simplify2 simplify start new-number update-env rehome see gen-new-vals number-of home-of known-value known-expr known xor ℕ-discrete
-mismatches = refl
-
--- check's refusals on the input come first
-pub input-refused : text-at (hex "00000006 02 00 0000 0000") [] 0 ≡ (refused 2 4, [])
-unfolding code1 code2 with-code one-of two-of upd asInt asBool with-both with-one divide shift apply1 apply2 eval typeOf inRange addW subW mulW divW ltW number check-answer checked literal-of value-of form digit-value bytes-from hex name-index literal arguments operands instr block name names length-field end contents read give _>>=_ here field text if-there times type-in id-bytes shape-of any at-most below length-test version-test names-test type-test text-length-test text-test saves-test code-test count-test literal-test all-text well-formed undigited reserved same-bytes among obeys well-typed body-types block-types accept be join when index-bytes literal-bytes argument-bytes operand-bytes instr-bytes block-bytes name-bytes content-bytes bytes digits-of digits made-text made-name made-names rewriting name-answer name-part choose from-parts with-input name-text reads numbered make-val val-to-instr save save-at handle-overwrite find get-val-num number-dest place by-form instr-lvn block-lvn is-save count-saves blocks-lvn saved-in made-from lvn refused-line shown output-with program-output rewrite-answer rewritten-bytes rewrite-result rewrite-output rewrite rewrite-leaves folded fold1 fold2 is-int is-bool identity ordered simplify1 simplify2 simplify start new-number update-env rehome see gen-new-vals number-of home-of known-value known-expr known xor ℕ-discrete
-input-refused = refl

@@ -9,5 +9,6 @@ pub mod Program
 pub mod Examples
 pub mod Folds
 pub mod Entries
+pub mod Parts
 pub mod Printed
 pub mod View

@@ -3,7 +3,7 @@ use mathlib.Core.Bool.{cond}
 use Prim.Native.Nat.{_+_, _-_, _≤_}
 use lib.ListN.{length}
 use native.Mathlib.Omega.{arith}
-use Rattle.naming.proofs.Laws.{in-rewriting, in-input, text-bytes}
+use Rattle.naming.proofs.Laws.{in-rewriting, in-input, text-bytes, text-starts}
 use borrow.Author.Needs.{needs}
 use Rattle.naming.proofs.name_text.Statement.{statement}
 use Rattle.naming.proofs.name_text.Tie as tie
@@ -45,16 +45,24 @@ returns c =
     let f = c .before .before .before .part-of .result in
     let a = c .before .before .before .before .before .before .args in
     let d : f .from + f .count - f .from ≡ f .count = omega arith in
-    text-bytes (a .input .now) (a .rewriting .now) _ _ (c .before .before .before .part-of .ensures .0) (a .rewriting .now) _
-    (sym (ap (λ b. cond b (a .rewriting .now) (a .input .now)) (c .before .before .if1 .taken))) d
+    let same = c .before .before .before .part-of .ensures .0 in
+    let side = c .before .before .if1 .taken in (
+      text-bytes (a .input .now) (a .rewriting .now) _ _ same (a .rewriting .now) _ (sym (ap (λ b. cond b (a .rewriting .now) (a .input .now)) side)) d,
+      text-starts (a .input .now) (a .rewriting .now) _ _ same (a .input .ptr) (a .rewriting .ptr) (a .rewriting .ptr)
+          (sym (ap (λ b. cond b (a .rewriting .ptr) (a .input .ptr)) side)),
+    )
 
 returns-2 : tie.Need-returns-2
 returns-2 c =
     let f = c .before .before .before .part-of .result in
     let a = c .before .before .before .before .before .before .args in
     let d : f .from + f .count - f .from ≡ f .count = omega arith in
-    text-bytes (a .input .now) (a .rewriting .now) _ _ (c .before .before .before .part-of .ensures .0) (a .input .now) _
-    (sym (ap (λ b. cond b (a .rewriting .now) (a .input .now)) (c .before .before .if1 .left))) d
+    let same = c .before .before .before .part-of .ensures .0 in
+    let side = c .before .before .if1 .left in (
+      text-bytes (a .input .now) (a .rewriting .now) _ _ same (a .input .now) _ (sym (ap (λ b. cond b (a .rewriting .now) (a .input .now)) side)) d,
+      text-starts (a .input .now) (a .rewriting .now) _ _ same (a .input .ptr) (a .rewriting .ptr) (a .input .ptr)
+          (sym (ap (λ b. cond b (a .rewriting .ptr) (a .input .ptr)) side)),
+    )
 
 pub name-text-spec : {M : Type 1} → statement M
 name-text-spec =
