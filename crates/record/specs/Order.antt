@@ -61,10 +61,12 @@ rows =
     -- A of 17 before N is too great; N too great, and below A
     ("01 11 FFFF", refused 3 5) ∷
     ("01 10 0101", refused 3 6) ∷
-    -- a text past the end, malformed too; of length 0, and nothing behind it; used before by the name before the last
+    -- a text past the end, malformed too; a wrong type before a wrong length
     ("01 00 0001 00 02 20", refused 1 10) ∷
     ("01 00 0001 04 00", refused 3 8) ∷
+    -- a text used before, by the first name or by a later one
     ("01 00 0003 00 01 61 00 01 62 00 01 61 0000", refused 4 16) ∷
+    ("01 00 0003 00 01 61 00 01 62 00 01 62 0000", refused 4 16) ∷
     -- texts that differ by a capital, by their length, by their last byte
     ("01 00 0005 00 01 61 00 01 41 00 02 6161 00 02 6162 00 03 616161 0000", accepted) ∷
     -- n too great, and saves; saves of 256
