@@ -12,6 +12,11 @@ pub mod Hex
 pub mod Good
 pub mod Refusals
 pub mod Tables
+pub mod Depths
+pub mod Letters
+pub mod Literals
+pub mod Limits
+pub mod Order
 pub mod Samples
 pub mod Forms
 pub mod View

@@ -2,8 +2,10 @@
 use Prim.Native.Nat.{ℕ}
 use Prim.Native.String.{String}
 use mathlib.Core.Path.{_≡_, refl}
+use mathlib.Core.Bool.{Bool, not, _&&_}
 use mathlib.Core.List.{List, [], _∷_, _++_, map}
 use lib.ListN.{length}
+use lib.Dec.{eqb}
 use Rattle.arith.specs.Value.{typeOf, inRange}
 use Rattle.record.specs.Answer.{Returned, number, check-answer, checked, literal-of}
 use Rattle.record.specs.Hex.{digit-value, bytes-from, hex}
@@ -11,6 +13,7 @@ use Rattle.record.specs.Read.{name-index, literal, arguments, operands, 
 use Rattle.record.specs.Reader.{give, _>>=_, here, field, text, if-there, times}
 use Rattle.record.specs.Record.{type-in, id-bytes}
 use Rattle.record.specs.Shape.{shape-of}
+use Rattle.record.specs.Tables.{keep}
 use Rattle.record.specs.Tests.{any, at-most, below, length-test, version-test, names-test, type-test, text-length-test, text-test, saves-test, code-test, count-test, literal-test}
 use Rattle.record.specs.Text.{all-text, well-formed, undigited, reserved, same-bytes, among}
 use Rattle.record.specs.Typing.{obeys, well-typed, body-types, block-types, accept}
@@ -29,6 +32,13 @@ says s = check-answer (checked s)
 
 abbrev pub with-length : List ℕ → List ℕ
 with-length s = be 4 (length s) ++ s
+
+-- the items of which check does not say the answer a
+abbrev pub same-answer : Returned → Returned → Bool
+same-answer r a = eqb (r .number) (a .number) && same-bytes (r .values) (a .values)
+
+abbrev pub otherwise : {A : Type 0} → (A → Returned) → Returned → List A → List A
+otherwise f a xs = keep (λ x. not (same-answer (f x) a)) xs
 
 abbrev pub rows : List (String × Returned)
 rows =
@@ -124,9 +134,9 @@ pub refusals : map (λ r. says (with-length (hex (r .0)))) rows ≡ map (λ r. r
 unfolding typeOf inRange number check-answer checked literal-of digit-value bytes-from hex name-index literal arguments operands instr block name names length-field end contents read give _>>=_ here field text if-there times type-in id-bytes shape-of any at-most below length-test version-test names-test type-test text-length-test text-test saves-test code-test count-test literal-test all-text well-formed undigited reserved same-bytes among obeys well-typed body-types block-types accept be join when index-bytes literal-bytes argument-bytes operand-bytes instr-bytes block-bytes name-bytes content-bytes bytes
 refusals = refl
 
--- fewer than four bytes, and L that is not the rest
+-- fewer than four bytes, and L that is not the rest, whatever stands behind it
 pub first-refusals :
-    says [] ∷ says (hex "000000") ∷ says (hex "00000007 01 00 0000 0000") ∷ [] ≡
-    refused 1 0 ∷ refused 1 0 ∷ refused 1 0 ∷ []
+    map (λ s. says (hex s)) ("" ∷ "00" ∷ "0000" ∷ "000000" ∷ "00000007 01 00 0000 0000" ∷ "00000005 01 00 0000 0000" ∷ "01000006 01 00 0000 0000" ∷ "00000002 02" ∷ []) ≡
+    refused 1 0 ∷ refused 1 0 ∷ refused 1 0 ∷ refused 1 0 ∷ refused 1 0 ∷ refused 1 0 ∷ refused 1 0 ∷ refused 1 0 ∷ []
 unfolding typeOf inRange number check-answer checked literal-of digit-value bytes-from hex name-index literal arguments operands instr block name names length-field end contents read give _>>=_ here field text if-there times type-in id-bytes shape-of any at-most below length-test version-test names-test type-test text-length-test text-test saves-test code-test count-test literal-test all-text well-formed undigited reserved same-bytes among obeys well-typed body-types block-types accept be join when index-bytes literal-bytes argument-bytes operand-bytes instr-bytes block-bytes name-bytes content-bytes bytes
 first-refusals = refl

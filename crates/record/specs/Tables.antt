@@ -5,7 +5,7 @@ use Prim.Native.String.{String, [] as []ˢ, _∷_ as _∷ˢ_}
 use mathlib.Core.Path.{_≡_, refl}
 use mathlib.Core.Bool.{Bool, cond}
 use mathlib.Core.List.{List, [], _∷_, _++_, map}
-use lib.ListN.{getD, drop}
+use lib.ListN.{getD, drop, length}
 use lib.Dec.{eqb}
 use Rattle.record.specs.Record.{nm, Instr, type-in}
 use Rattle.record.specs.Shape.{shape-of}
@@ -65,36 +65,37 @@ last = refl
 abbrev pub types : List ℕ
 types = 0x00 ∷ 0x01 ∷ 0x02 ∷ 0x03 ∷ 0x10 ∷ 0x20 ∷ []
 
--- every list of n of them
+-- every list of n of so many names
 unfoldable pub each-first : List ℕ → List (List ℕ) → List (List ℕ)
 each-first [] xss = []
 each-first (x ∷ xs) xss = map (λ ys. x ∷ ys) xss ++ each-first xs xss
 
-unfoldable pub choices : ℕ → List (List ℕ)
-choices zero = [] ∷ []
-choices (suc n) = each-first (count 0 6) (choices n)
+unfoldable pub choices : ℕ → ℕ → List (List ℕ)
+choices names zero = [] ∷ []
+choices names (suc n) = each-first (count 0 names) (choices names n)
 
-unfoldable pub keep : (List ℕ → Bool) → List (List ℕ) → List (List ℕ)
+-- those that pass
+unfoldable pub keep : {A : Type 0} → (A → Bool) → List A → List A
 keep p [] = []
-keep p (xs ∷ xss) = cond (p xs) (xs ∷ keep p xss) (keep p xss)
+keep p (x ∷ xs) = cond (p x) (x ∷ keep p xs) (keep p xs)
 
 abbrev pub instruction : ℕ → ℕ → ℕ → List ℕ → Instr
 instruction c d kind xs =
     record { id = 0; code = c; dest = nm d; lit = record { kind = kind; bits = 0 }; args = map nm xs; callee = 0; blocks = [] }
 
--- the choices of a dest and n arguments, of n arguments alone, and of a literal's kind and a dest, that a code takes
-abbrev pub values-of : ℕ → ℕ → List (List ℕ)
-values-of n c = keep (λ xs. well-typed (type-in types) (instruction c (getD xs 0 0) 0 (drop 1 xs))) (choices (suc n))
+-- names of these types; the choices of a dest and n arguments, of n arguments alone, and of a literal's kind and a dest, that a code takes
+abbrev pub values-over : List ℕ → ℕ → ℕ → List (List ℕ)
+values-over ts n c = keep (λ xs. well-typed (type-in ts) (instruction c (getD xs 0 0) 0 (drop 1 xs))) (choices (length ts) (suc n))
 
-abbrev pub effects-of : ℕ → ℕ → List (List ℕ)
-effects-of n c = keep (λ xs. well-typed (type-in types) (instruction c 0 0 xs)) (choices n)
+abbrev pub effects-over : List ℕ → ℕ → ℕ → List (List ℕ)
+effects-over ts n c = keep (λ xs. well-typed (type-in ts) (instruction c 0 0 xs)) (choices (length ts) n)
 
-abbrev pub constants-of : ℕ → List (List ℕ)
-constants-of c = keep (λ xs. well-typed (type-in types) (instruction c (getD xs 1 0) (getD xs 0 0) [])) (choices 2)
+abbrev pub constants-over : List ℕ → ℕ → List (List ℕ)
+constants-over ts c = keep (λ xs. well-typed (type-in ts) (instruction c (getD xs 1 0) (getD xs 0 0) [])) (choices (length ts) 2)
 
 -- add sub mul div; eq lt gt le ge; and or; ptradd
 pub operators-of-two :
-    map (values-of 2) (1 ∷ 2 ∷ 3 ∷ 4 ∷ 5 ∷ 6 ∷ 7 ∷ 8 ∷ 9 ∷ 11 ∷ 12 ∷ 14 ∷ []) ≡
+    map (values-over types 2) (1 ∷ 2 ∷ 3 ∷ 4 ∷ 5 ∷ 6 ∷ 7 ∷ 8 ∷ 9 ∷ 11 ∷ 12 ∷ 14 ∷ []) ≡
     map (map numerals)
     (("000" ∷ []) ∷ ("000" ∷ []) ∷ ("000" ∷ []) ∷ ("000" ∷ []) ∷
     ("100" ∷ []) ∷ ("100" ∷ []) ∷ ("100" ∷ []) ∷ ("100" ∷ []) ∷ ("100" ∷ []) ∷
@@ -106,7 +107,7 @@ operators-of-two = refl
 
 -- fadd fsub fmul fdiv; feq flt fgt fle fge; ceq clt cgt cle cge
 pub floats-and-chars :
-    map (values-of 2) (count 21 14) ≡
+    map (values-over types 2) (count 21 14) ≡
     map (map numerals)
     (("222" ∷ []) ∷ ("222" ∷ []) ∷ ("222" ∷ []) ∷ ("222" ∷ []) ∷
     ("122" ∷ []) ∷ ("122" ∷ []) ∷ ("122" ∷ []) ∷ ("122" ∷ []) ∷ ("122" ∷ []) ∷
@@ -117,7 +118,7 @@ floats-and-chars = refl
 
 -- not; id; char2int int2char alloc load
 pub operators-of-one :
-    map (values-of 1) (10 ∷ 13 ∷ 35 ∷ 36 ∷ 37 ∷ 38 ∷ []) ≡
+    map (values-over types 1) (10 ∷ 13 ∷ 35 ∷ 36 ∷ 37 ∷ 38 ∷ []) ≡
     map (map numerals)
     (("11" ∷ []) ∷
     ("00" ∷ "11" ∷ "22" ∷ "33" ∷ "44" ∷ "55" ∷ []) ∷
@@ -128,7 +129,7 @@ operators-of-one = refl
 
 -- br; free; store; ret, call and print take any type
 pub effects :
-    map (effects-of 1) (65 ∷ 71 ∷ 66 ∷ 67 ∷ 68 ∷ []) ++ (effects-of 2 70 ∷ []) ≡
+    map (effects-over types 1) (65 ∷ 71 ∷ 66 ∷ 67 ∷ 68 ∷ []) ++ (effects-over types 2 70 ∷ []) ≡
     map (map numerals)
     (("1" ∷ []) ∷ ("4" ∷ "5" ∷ []) ∷
     ("0" ∷ "1" ∷ "2" ∷ "3" ∷ "4" ∷ "5" ∷ []) ∷
@@ -141,7 +142,7 @@ effects = refl
 
 -- const: the kinds 0 int, 1 bool, 2 float, 3 char, with the dests they fit; call gives any type
 pub constants-and-calls :
-    constants-of 0 ∷ values-of 0 20 ∷ [] ≡
+    constants-over types 0 ∷ values-over types 0 20 ∷ [] ≡
     map (map numerals) (("00" ∷ "02" ∷ "11" ∷ "22" ∷ "33" ∷ []) ∷ ("0" ∷ "1" ∷ "2" ∷ "3" ∷ "4" ∷ "5" ∷ []) ∷ [])
 unfolding count numerals each-first choices keep well-typed obeys same-bytes type-in
 constants-and-calls = refl
