@@ -2,7 +2,7 @@
  *
  *     rt staticlib exports        writes target/staticlib/libexports.a
  *
- * Records, refusals and limits are those of document 01. Each function returns 0, or the number of its refusal:
+ * Records, refusals and limits are those of docs/REFERENCE.md. Each function returns 0, or the number of its refusal:
  *
  *     1  fewer than four bytes, L not the rest, a field past the end, or bytes left over
  *     2  version

@@ -23,7 +23,8 @@ fn main() {
     let top = env::var_os("BRIL_SRC").map_or(default, PathBuf::from);
     let (path, missing) = source(&env::var("CARGO_PKG_NAME").unwrap());
     let file = top.join(path).canonicalize().unwrap_or_else(|e| {
-        panic!("{}: {e}; set BRIL_SRC to the directory of the sources", top.join(path).display())
+        eprintln!("{}: {e}; set BRIL_SRC to the directory of the sources", top.join(path).display());
+        std::process::exit(1)
     });
 
     let out = var("OUT_DIR");

@@ -7,6 +7,7 @@ The last line is `N passed, M failed`.
 """
 
 import argparse
+import os
 import subprocess
 import sys
 from collections import Counter
@@ -24,8 +25,12 @@ PART = 5000
 
 
 def build():
-    subprocess.run(["cargo", "build", "--release", "--offline", "--quiet"],
-                   cwd=ORACLE, check=True)
+    """Builds the oracle; where the Rust's sources are missing, `sources` says so."""
+    sources = subprocess.run([ORACLE / "sources"], text=True, stdout=subprocess.PIPE)
+    if sources.returncode:
+        sys.exit(sources.returncode)
+    subprocess.run(["cargo", "build", "--release", "--offline", "--quiet"], check=True,
+                   cwd=ORACLE, env={**os.environ, "BRIL_SRC": sources.stdout.strip()})
 
 
 def oracle(inputs):

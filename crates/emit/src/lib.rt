@@ -1,4 +1,5 @@
-// Writing to a lent slice. A store past the end does nothing, so no writer asks for room, and over an empty slice it learns the size.
+// Writing to a lent slice. `put_u8` and `copy_bytes` leave out what would stand past the end, and the writers over them with it, so they
+// ask for no room, and over an empty slice they learn the size. Only `store_bytes` and `move_up` ask that what they write lies inside.
 ghost use mathlib.Core.Path.{_≡_};
 ghost use Prim.Native.Nat.{_+_, _-_, _^_, _<_, _≤_};
 ghost use lib.ListN.{length, take, drop};
