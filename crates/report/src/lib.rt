@@ -4,7 +4,7 @@ ghost use mathlib.Core.Path.{_≡_};
 ghost use mathlib.Core.List.{[], _∷_};
 ghost use Prim.Native.Nat.{_≤_};
 ghost use lib.ListN.{length, take};
-ghost use Rattle.numbering.specs.Program.{refused-line, output-with};
+ghost use Rattle.numbering.specs.Program.{refused-line, program-output};
 ghost use Rattle.emit.specs.Put.{Wrote};
 
 // The line of a refusal, from the first byte on; how long it is.
@@ -20,17 +20,17 @@ pub fn put_refusal(out: &mut [u8], number: u8, value: usize) -> usize
     end + 1
 }
 
-// All that the program does between reading and writing: what it prints stands in the buffer's first bytes; how many they are.
-// A buffer of 36 bytes has room for every line; what is in it at the start is not printed.
-pub fn output_of(input: &[u8], buffer: &mut [u8]) -> usize
-    ensures { λ r. ⌜ (36 ≤ length (now (buffer .entry)) →
-        (r ≤ length (now (buffer .exit))) ×
-        (take r (now (buffer .exit)) ≡ output-with (now (buffer .entry)) (now (input .entry)))) ⌝ }
+// All that the program does between reading and writing: of the first `count` bytes of the input, which are all if it has not so many,
+// what it prints stands in the buffer's first bytes; how many they are.
+pub fn program(input: &[u8; 8193], count: usize, buffer: &mut [u8; 65536]) -> usize
+    ensures { λ r. ⌜
+        (r ≤ length (now (buffer .exit))) × (take r (now (buffer .exit)) ≡ program-output (take count (now (input .entry)))) ⌝ }
 {
-    if input.len() > 8192 {
+    let read: &[u8] = input;
+    if count > 8192 {
         return put_refusal(buffer, 10, 8192);
     }
-    match rewrite::rewrite(input, buffer) {
+    match rewrite::rewrite(&read[..count], buffer) {
         Rewritten::Written(n, _) => n,
         Rewritten::Refused(k, o) => put_refusal(buffer, checker::number_of(k), o),
         Rewritten::Room(n) => put_refusal(buffer, 9, n),

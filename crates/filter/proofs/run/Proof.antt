@@ -1,27 +1,24 @@
--- `main` is safe: what it writes lies in the buffer.
+-- `filter::run` is safe: what it writes lies in the buffer.
 use mathlib.Core.Path.{sym}
 use native.Mathlib.Omega.{arith}
 use lib.Seq.{length-take-le}
 use borrow.Author.Needs.{needs}
-use Rattle.lvn.proofs.main.Statement.{statement}
-use Rattle.lvn.proofs.main.Tie as tie
+use Rattle.filter.proofs.run.Statement.{statement}
+use Rattle.filter.proofs.run.Tie as tie
 
 array-share-prefix-buffer : tie.Need-array-share-prefix-buffer
-array-share-prefix-buffer c = c .before .output-of .ensures (omega arith) .0
+array-share-prefix-buffer c = c .program .ensures .0
 
 slice-aggregate-write-all : tie.Need-slice-aggregate-write-all
 slice-aggregate-write-all c =
-    sym (length-take-le _ _ (c .before .before .output-of .ensures (omega arith) .0))
+    sym (length-take-le _ _ (c .before .program .ensures .0))
 
-pub main-spec : {M : Type 1} → statement M
-main-spec =
+pub run-spec : {M : Type 1} → statement M
+run-spec =
     tie.close
     (tie.spec
     (λ c. search needs)
     (λ c κs. search needs)
-    (λ c. search needs)
-    (λ c. search needs)
-    (λ c. search needs)
     (λ c κs. search needs)
     array-share-prefix-buffer
     slice-aggregate-write-all

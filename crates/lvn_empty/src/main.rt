@@ -1,0 +1,4 @@
+// The program, run on nothing.
+fn main() {
+    filter::run();
+}
