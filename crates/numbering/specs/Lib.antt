@@ -8,4 +8,5 @@ pub mod Program
 pub mod Examples
 pub mod Folds
 pub mod Entries
+pub mod Printed
 pub mod View
