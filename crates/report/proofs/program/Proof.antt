@@ -14,7 +14,7 @@ returns c =
     (c .put-refusal .ensures) (omega arith)
 
 slice-aggregate-rewrite : tie.Need-slice-aggregate-rewrite
-slice-aggregate-rewrite c = sym (length-take-le _ _ (omega arith))
+slice-aggregate-rewrite c = sym (length-take-le (c .before .before .before .args .count) _ (omega arith))
 
 returns-2 : tie.Need-returns-2
 returns-2 c =
