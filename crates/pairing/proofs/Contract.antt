@@ -43,6 +43,7 @@ same-bytes-written a n k m j e f = cc
 same-saves : (a : Rewritten) (n k m j : ℕ) → a ≡ Written n k → a ≡ Written m j → k ≡ j
 same-saves a n k m j e f = cc
 
+-- Where the answer is Written, that way of ending gives the rewriting and the runs.
 pub written-run-alike :
     (s out out′ : List ℕ) (answer : Rewritten) → Bytes s → Ends s out answer out′ →
     (n k : ℕ) → answer ≡ Written n k → WrittenAlike s out out′ n k

@@ -5,6 +5,7 @@ use Rattle.demands.proofs.Octets.{octets}
 use Rattle.demands.proofs.rewrite_as_demanded.Statement.{statement}
 use Rattle.demands.proofs.rewrite_as_demanded.Tie as tie
 
+-- of a slice that is lent it is known that each element is a value of its type
 returns : tie.Need-returns
 returns c =
     let w = c .before .before in
