@@ -7,5 +7,6 @@ pub mod NameText
 pub mod Program
 pub mod Examples
 pub mod Folds
+pub mod Turns
 pub mod Entries
 pub mod View
