@@ -1,3 +1,4 @@
 pub mod Machine
 pub mod Reached
 pub mod Examples
+pub mod Runs

@@ -10,34 +10,13 @@ use Rattle.arith.specs.Map.{upd}
 use Rattle.arith.specs.Operation.{asInt, asBool, with-both, with-one, divide, shift, apply1, apply2}
 use Rattle.arith.specs.Word.{addW, subW, mulW, divW, ltW}
 use Rattle.record.specs.Form.{value-of, form}
-use Rattle.record.specs.Record.{nm, no-lit, Instr, type-in}
+use Rattle.record.specs.Record.{Instr, type-in}
 use Rattle.record.specs.Shape.{shape-of}
+use Rattle.record.specs.Short.{gives, asks, set, does, tells, chooses, goes}
 use Rattle.record.specs.Tables.{count}
 use Rattle.numbering.specs.Number.{reads, numbered, make-val, val-to-instr, save, save-at, handle-overwrite, find, get-val-num, number-dest, place, by-form, instr-lvn, block-lvn, is-save, count-saves, blocks-lvn, saved-in, made-from, lvn}
 use Rattle.numbering.specs.Simplify.{folded, fold1, fold2, is-int, is-bool, identity, ordered, simplify1, simplify2, simplify}
 use Rattle.numbering.specs.State.{start, new-number, update-env, rehome, see, gen-new-vals, number-of, home-of, known-value, known-expr, known}
-
--- ---- instructions under the id i: d = c xs; d = call f xs; d = literal; the effect c of xs; call f xs; br x; jmp b
-abbrev pub gives : ℕ → ℕ → ℕ → List ℕ → Instr
-gives i d c xs = record { id = i; code = c; dest = nm d; lit = no-lit; args = map nm xs; callee = 0; blocks = [] }
-
-abbrev pub asks : ℕ → ℕ → ℕ → List ℕ → Instr
-asks i d f xs = record { id = i; code = 20; dest = nm d; lit = no-lit; args = map nm xs; callee = f; blocks = [] }
-
-abbrev pub set : ℕ → ℕ → ℕ → ℕ → Instr
-set i d kind bits = record { id = i; code = 0; dest = nm d; lit = record { kind = kind; bits = bits }; args = []; callee = 0; blocks = [] }
-
-abbrev pub does : ℕ → ℕ → List ℕ → Instr
-does i c xs = record { id = i; code = c; dest = nm 0; lit = no-lit; args = map nm xs; callee = 0; blocks = [] }
-
-abbrev pub tells : ℕ → ℕ → List ℕ → Instr
-tells i f xs = record { id = i; code = 67; dest = nm 0; lit = no-lit; args = map nm xs; callee = f; blocks = [] }
-
-abbrev pub chooses : ℕ → ℕ → ℕ → ℕ → Instr
-chooses i x b c = record { id = i; code = 65; dest = nm 0; lit = no-lit; args = nm x ∷ []; callee = 0; blocks = b ∷ c ∷ [] }
-
-abbrev pub goes : ℕ → ℕ → Instr
-goes i b = record { id = i; code = 64; dest = nm 0; lit = no-lit; args = []; callee = 0; blocks = b ∷ [] }
 
 -- what is written of a block, where the first A of names of these types are arguments
 abbrev pub turned : ℕ → List ℕ → List Instr → List Instr
@@ -184,7 +163,7 @@ unfolding code1 code2 with-code one-of two-of upd asInt asBool with-both with-on
 saves-made = refl
 
 -- ---- "Per block": what one block has numbered no other knows; K, saves and types of made names run on
--- a int, an argument, x int, c bool, f float. print c x; x = add a a; c = true. Then x = add a a; c = id c. Then print f; f = a float
+-- a int, an argument, x int, c bool, f float. print c x; x = add a a; c = true. Then x = add a a; c = id c. Then print f; f = a float. Then a = 1
 pub block-by-block :
     lvn
     (record {
@@ -194,11 +173,12 @@ pub block-by-block :
           record { saves = 0; body = does 1 68 (2 ∷ 1 ∷ []) ∷ gives 2 1 1 (0 ∷ 0 ∷ []) ∷ set 3 2 1 1 ∷ [] } ∷
           record { saves = 0; body = gives 4 1 1 (0 ∷ 0 ∷ []) ∷ gives 5 2 13 (2 ∷ []) ∷ [] } ∷
           record { saves = 0; body = does 6 68 (3 ∷ []) ∷ set 7 3 2 7 ∷ [] } ∷
+          record { saves = 0; body = set 8 0 0 1 ∷ [] } ∷
           [];
     }) ≡
     record {
       args = 1;
-      types = 0x00 ∷ 0x00 ∷ 0x01 ∷ 0x02 ∷ 0x00 ∷ 0x01 ∷ 0x02 ∷ [];
+      types = 0x00 ∷ 0x00 ∷ 0x01 ∷ 0x02 ∷ 0x00 ∷ 0x01 ∷ 0x02 ∷ 0x00 ∷ [];
       blocks =
           record {
             saves = 2;
@@ -207,6 +187,7 @@ pub block-by-block :
           } ∷
           record { saves = 0; body = gives 4 1 1 (0 ∷ 0 ∷ []) ∷ gives 5 2 13 (2 ∷ []) ∷ [] } ∷
           record { saves = 1; body = does 6 68 (3 ∷ []) ∷ gives 7 6 13 (3 ∷ []) ∷ set 7 3 2 7 ∷ [] } ∷
+          record { saves = 1; body = gives 8 7 13 (0 ∷ []) ∷ set 8 0 0 1 ∷ [] } ∷
           [];
     }
 unfolding code1 code2 with-code one-of two-of upd asInt asBool with-both with-one divide shift apply1 apply2 addW subW mulW divW ltW value-of form type-in shape-of count reads numbered make-val val-to-instr save save-at handle-overwrite find get-val-num number-dest place by-form instr-lvn block-lvn is-save count-saves blocks-lvn saved-in made-from lvn folded fold1 fold2 is-int is-bool identity ordered simplify1 simplify2 simplify start new-number update-env rehome see gen-new-vals number-of home-of known-value known-expr known xor ℕ-discrete
