@@ -1,4 +1,4 @@
--- Instructions in short, for the examples: i is the id, c a code, d, x and xs indexes of names, f a callee, b and c blocks.
+-- Instructions in short, for the examples: i is the id, c a code, d, x and xs indexes of names, f a callee, b and e blocks.
 use Prim.Native.Nat.{ℕ}
 use mathlib.Core.List.{List, [], _∷_, map}
 use Rattle.record.specs.Record.{nm, no-lit, Instr}
@@ -23,9 +23,9 @@ does i c xs = record { id = i; code = c; dest = nm 0; lit = no-lit; args = map n
 abbrev pub tells : ℕ → ℕ → List ℕ → Instr
 tells i f xs = record { id = i; code = 67; dest = nm 0; lit = no-lit; args = map nm xs; callee = f; blocks = [] }
 
--- br x b c
+-- br x b e
 abbrev pub chooses : ℕ → ℕ → ℕ → ℕ → Instr
-chooses i x b c = record { id = i; code = 65; dest = nm 0; lit = no-lit; args = nm x ∷ []; callee = 0; blocks = b ∷ c ∷ [] }
+chooses i x b e = record { id = i; code = 65; dest = nm 0; lit = no-lit; args = nm x ∷ []; callee = 0; blocks = b ∷ e ∷ [] }
 
 -- jmp b
 abbrev pub goes : ℕ → ℕ → Instr
