@@ -2,3 +2,4 @@ pub mod Machine
 pub mod Reached
 pub mod Examples
 pub mod ReachedRuns
+pub mod Runs

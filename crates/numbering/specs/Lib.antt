@@ -8,6 +8,7 @@ pub mod Ways
 pub mod Program
 pub mod Examples
 pub mod Folds
+pub mod Turns
 pub mod Entries
 pub mod Parts
 pub mod Printed

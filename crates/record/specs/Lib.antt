@@ -17,6 +17,7 @@ pub mod Letters
 pub mod Literals
 pub mod Limits
 pub mod Order
+pub mod Short
 pub mod Samples
 pub mod Forms
 pub mod View

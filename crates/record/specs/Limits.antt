@@ -45,21 +45,13 @@ given-args code n callee =
 pub limits-reached :
     arguments-of 16 16 ∷ arguments-of 17 17 ∷ arguments-of 16 15 ∷ arguments-of 0 0 ∷
     text-of 32 ∷ text-of 33 ∷ text-of 1 ∷ text-of 0 ∷
-    blocks-of 64 ∷ blocks-of 65 ∷
+    arguments-of 0 256 ∷ arguments-of 0 257 ∷ blocks-of 64 ∷ blocks-of 65 ∷ nops-of 256 ∷ nops-of 257 ∷
     given-args "14 0000" 8 "0000" ∷ given-args "14 0000" 9 "0000" ∷ given-args "43" 8 "0000" ∷ given-args "43" 9 "0000" ∷
     given-args "44" 8 "" ∷ given-args "44" 9 "" ∷ given-args "44" 0 "" ∷ given-args "42" 1 "" ∷ given-args "42" 2 "" ∷ [] ≡
     accepted ∷ refused 3 5 ∷ refused 3 6 ∷ accepted ∷
     accepted ∷ refused 3 9 ∷ accepted ∷ refused 3 9 ∷
-    accepted ∷ refused 3 8 ∷
+    accepted ∷ refused 3 6 ∷ accepted ∷ refused 3 8 ∷ accepted ∷ refused 3 10 ∷
     accepted ∷ refused 3 24 ∷ accepted ∷ refused 3 22 ∷
     accepted ∷ refused 3 22 ∷ accepted ∷ accepted ∷ refused 3 22 ∷ []
 unfolding flatMap count number check-answer checked digit-value bytes-from hex name-index arguments operands instr block name names length-field end contents read give _>>=_ here field text if-there times type-in id-bytes shape-of any at-most below length-test version-test names-test type-test text-length-test text-test saves-test code-test count-test all-text well-formed undigited reserved same-bytes among obeys well-typed body-types block-types accept be
 limits-reached = refl
-
-pub names-reached : arguments-of 0 256 ∷ arguments-of 0 257 ∷ [] ≡ accepted ∷ refused 3 6 ∷ []
-unfolding flatMap count number check-answer checked digit-value bytes-from hex name-index arguments operands instr block name names length-field end contents read give _>>=_ here field text if-there times type-in id-bytes shape-of any at-most below length-test version-test names-test type-test text-length-test text-test saves-test code-test count-test all-text well-formed undigited reserved same-bytes among obeys well-typed body-types block-types accept be
-names-reached = refl
-
-pub instructions-reached : nops-of 256 ∷ nops-of 257 ∷ [] ≡ accepted ∷ refused 3 10 ∷ []
-unfolding flatMap count number check-answer checked digit-value bytes-from hex name-index arguments operands instr block name names length-field end contents read give _>>=_ here field text if-there times type-in id-bytes shape-of any at-most below length-test version-test names-test type-test text-length-test text-test saves-test code-test count-test all-text well-formed undigited reserved same-bytes among obeys well-typed body-types block-types accept be
-instructions-reached = refl

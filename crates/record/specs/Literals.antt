@@ -39,7 +39,8 @@ rows =
     (0x03, 3, accepted, "0000000000000000" ∷ "0000000000000041" ∷ "000000000000D7FF" ∷ []) ∷
     (0x03, 3, refused 3 25, "000000000000D800" ∷ "000000000000DBFF" ∷ "000000000000DC00" ∷ "000000000000DFFF" ∷ []) ∷
     (0x03, 3, accepted, "000000000000E000" ∷ "000000000000FFFF" ∷ "0000000000010000" ∷ "000000000010FFFF" ∷ []) ∷
-    (0x03, 3, refused 3 25, "0000000000110000" ∷ "0000000001000041" ∷ "0000000100000041" ∷ "0100000000000041" ∷ "8000000000000041" ∷ "FFFFFFFFFFFFFFFF" ∷ []) ∷
+    (0x03, 3, refused 3 25, "0000000000110000" ∷ "0000000001000041" ∷ "0000000100000041" ∷ []) ∷
+    (0x03, 3, refused 3 25, "0100000000000041" ∷ "8000000000000041" ∷ "FFFFFFFFFFFFFFFF" ∷ []) ∷
     -- not of its kind, before its type is looked at: in an int, in a pointer
     (0x00, 1, refused 3 25, "0000000000000002" ∷ []) ∷
     (0x13, 3, refused 3 25, "000000000000D800" ∷ []) ∷
@@ -49,17 +50,17 @@ rows =
     (0x00, 3, refused 1 25, "00000000000000" ∷ "" ∷ []) ∷
     []
 
-pub literals-tell : flatMap (λ r. otherwise (given (r .0) (r .1)) (r .2) (r .3)) rows ≡ []
+-- no literal fits a pointer
+abbrev pub in-pointers : List (ℕ × ℕ × Returned × List String)
+in-pointers =
+    flatMap (λ type. map (λ kind. (type, kind, refused 7 17, "0000000000000001" ∷ [])) (count 0 4)) (hex "10 11 12 13 F0 F1 F2 F3")
+
+pub literals-tell : flatMap (λ r. otherwise (given (r .0) (r .1)) (r .2) (r .3)) (rows ++ in-pointers) ≡ []
 unfolding flatMap same-bytes count keep number check-answer checked digit-value bytes-from hex name-index literal operands instr block name names length-field end contents read give _>>=_ here field text if-there times type-in id-bytes shape-of any at-most below length-test version-test names-test type-test text-length-test text-test saves-test code-test literal-test all-text well-formed undigited reserved among obeys well-typed body-types block-types accept be
 literals-tell = refl
 
--- the types, of all bytes, that a literal of each kind fits; a type that it does not fit is refused at the instruction
+-- the types, of all bytes, that a literal of each kind fits
 pub types-of-literals :
     map (λ kind. bytes-for (λ type. given type kind "0000000000000001")) (count 0 5) ≡ hex "00 02" ∷ hex "01" ∷ hex "02" ∷ hex "03" ∷ [] ∷ []
 unfolding flatMap same-bytes count keep number check-answer checked digit-value bytes-from hex name-index literal operands instr block name names length-field end contents read give _>>=_ here field text if-there times type-in id-bytes shape-of any at-most below length-test version-test names-test type-test text-length-test text-test saves-test code-test literal-test all-text well-formed undigited reserved among obeys well-typed body-types block-types accept be
 types-of-literals = refl
-
-pub types-refused :
-    flatMap (λ kind. otherwise (λ type. given type kind "0000000000000001") (refused 7 17) (hex "10 11 12 13 F0 F1 F2 F3")) (count 0 4) ≡ []
-unfolding flatMap same-bytes count keep number check-answer checked digit-value bytes-from hex name-index literal operands instr block name names length-field end contents read give _>>=_ here field text if-there times type-in id-bytes shape-of any at-most below length-test version-test names-test type-test text-length-test text-test saves-test code-test literal-test all-text well-formed undigited reserved among obeys well-typed body-types block-types accept be
-types-refused = refl

@@ -69,7 +69,8 @@ rows =
     ("01 00 0003 00 01 61 00 01 62 00 01 62 0000", refused 4 16) ∷
     -- texts that differ by a capital, by their length, by their last byte
     ("01 00 0005 00 01 61 00 01 41 00 02 6161 00 02 6162 00 03 616161 0000", accepted) ∷
-    -- n too great, and saves; saves of 256
+    -- n too great, with nothing behind it or with wrong saves; saves of 256
+    ("01 00 0000 0001 0101", refused 3 10) ∷
     ("01 00 0000 0001 0101 0001", refused 3 10) ∷
     ("01 00 0000 0001 0000 0100", refused 3 12) ∷
     -- an id of all bits
@@ -108,10 +109,6 @@ rows =
     ("01 00 0001 00 01 78 0002 0001 0000 00000001 00 0000 020000000000000000 0000", refused 1 35) ∷
     []
 
-pub side-by-side : map (λ r. says (with-length (hex (r .0)))) rows ≡ map (λ r. r .1) rows
-unfolding flatMap count keep number check-answer checked digit-value bytes-from hex name-index literal arguments operands instr block name names length-field end contents read give _>>=_ here field text if-there times type-in id-bytes shape-of any at-most below length-test version-test names-test type-test text-length-test text-test saves-test code-test count-test literal-test all-text well-formed undigited reserved same-bytes among obeys well-typed body-types block-types accept be
-side-by-side = refl
-
 -- ---- "call, print, ret any type": names of eight types, each given by a call of all of them; call and print of all; ret of each
 abbrev pub each-index : (ℕ → List ℕ) → List ℕ
 each-index f = flatMap f (count 0 8)
@@ -119,13 +116,13 @@ each-index f = flatMap f (count 0 8)
 abbrev pub all-eight : List ℕ
 all-eight = 8 ∷ each-index (be 2)
 
-pub any-type :
-    says
-    (with-length
-    (hex "01 08 0008 000161 010162 020163 030164 100165 130166 F00167 F30168 0009 000A 0000" ++
+abbrev pub any-type : List ℕ
+any-type =
+    hex "01 08 0008 000161 010162 020163 030164 100165 130166 F00167 F30168 0009 000A 0000" ++
     (each-index (λ i. hex "00000001 14" ++ (be 2 i ++ (all-eight ++ hex "0003"))) ++
     (hex "00000002 43" ++ (all-eight ++ hex "0003 00000003 44") ++
-    (all-eight ++ each-index (λ i. hex "0001 0000 00000004 42 01" ++ be 2 i)))))) ≡
-    accepted
+    (all-eight ++ each-index (λ i. hex "0001 0000 00000004 42 01" ++ be 2 i))))
+
+pub side-by-side : says (with-length any-type) ∷ map (λ r. says (with-length (hex (r .0)))) rows ≡ accepted ∷ map (λ r. r .1) rows
 unfolding flatMap count keep number check-answer checked digit-value bytes-from hex name-index literal arguments operands instr block name names length-field end contents read give _>>=_ here field text if-there times type-in id-bytes shape-of any at-most below length-test version-test names-test type-test text-length-test text-test saves-test code-test count-test literal-test all-text well-formed undigited reserved same-bytes among obeys well-typed body-types block-types accept be
-any-type = refl
+side-by-side = refl

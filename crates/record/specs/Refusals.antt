@@ -136,7 +136,9 @@ refusals = refl
 
 -- fewer than four bytes, and L that is not the rest, whatever stands behind it
 pub first-refusals :
-    map (λ s. says (hex s)) ("" ∷ "00" ∷ "0000" ∷ "000000" ∷ "00000007 01 00 0000 0000" ∷ "00000005 01 00 0000 0000" ∷ "01000006 01 00 0000 0000" ∷ "00000002 02" ∷ []) ≡
+    map (λ s. says (hex s))
+    ("" ∷ "00" ∷ "0000" ∷ "000000" ∷
+    "00000007 01 00 0000 0000" ∷ "00000005 01 00 0000 0000" ∷ "01000006 01 00 0000 0000" ∷ "00000002 02" ∷ []) ≡
     refused 1 0 ∷ refused 1 0 ∷ refused 1 0 ∷ refused 1 0 ∷ refused 1 0 ∷ refused 1 0 ∷ refused 1 0 ∷ refused 1 0 ∷ []
 unfolding typeOf inRange number check-answer checked literal-of digit-value bytes-from hex name-index literal arguments operands instr block name names length-field end contents read give _>>=_ here field text if-there times type-in id-bytes shape-of any at-most below length-test version-test names-test type-test text-length-test text-test saves-test code-test count-test literal-test all-text well-formed undigited reserved same-bytes among obeys well-typed body-types block-types accept be join when index-bytes literal-bytes argument-bytes operand-bytes instr-bytes block-bytes name-bytes content-bytes bytes
 first-refusals = refl
