@@ -1,5 +1,6 @@
 -- Start here: what is proved of an accepted record and its rewriting, each theorem with its sentence.
--- The statements are in specs/Demand.antt; this file puts together what the other files prove.
+-- The statements are in specs/Demand.antt, and in numbering's specs/Ways.antt for demand 1; this file puts together what the other files
+-- prove. What rewrite's contract comes to is in Contract.antt.
 use Prim.Native.Nat.{ℕ, suc, _+_, _<_, _≤_}
 use mathlib.Core.Path.{_≡_, refl, sym, ap, _∙_, subst}
 use mathlib.Core.Logic.{_≢_, _↔_}
