@@ -25,7 +25,7 @@ many-names n = flatMap (λ i. 0x00 ∷ 0x02 ∷ (0x61 + i / 16) ∷ (0x61 + i % 
 abbrev pub copies : ℕ → String → List ℕ
 copies n s = flatMap (λ i. hex s) (count 0 n)
 
--- A of N names; N names; a text of n letters; B empty blocks; n instructions; a call, a print and a ret of n arguments
+-- A of N names; a text of n letters; B empty blocks; n instructions in a block; n arguments behind a code
 abbrev pub arguments-of : ℕ → ℕ → Returned
 arguments-of a n = says (with-length (0x01 ∷ a ∷ (be 2 n ++ (many-names n ++ hex "0000"))))
 
