@@ -122,6 +122,8 @@ abbrev pub saves-made : List Row
 saves-made =
     -- x = add x x, x unseen: it is numbered, and so saved; the operands are x, not the save
     (0, ints, gives 1 3 1 (3 ∷ 3 ∷ []) ∷ [], gives 1 6 13 (3 ∷ []) ∷ gives 1 3 1 (3 ∷ 3 ∷ []) ∷ []) ∷
+    -- c = not c, c a bool and an argument
+    (1, 0x01 ∷ [], gives 1 0 10 (0 ∷ []) ∷ [], gives 1 1 13 (0 ∷ []) ∷ gives 1 0 10 (0 ∷ []) ∷ []) ∷
     -- a = call 7 (a), a an argument
     (1, ints, asks 1 0 7 (0 ∷ []) ∷ [], gives 1 6 13 (0 ∷ []) ∷ asks 1 0 7 (0 ∷ []) ∷ []) ∷
     -- a = 1, a an argument that nothing reads
