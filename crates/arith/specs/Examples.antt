@@ -8,7 +8,7 @@ use Rattle.arith.specs.declared.One.the-variants.{Not, Id}
 use Rattle.arith.specs.declared.Two.{Two}
 use Rattle.arith.specs.declared.Two.the-variants.{Add, Sub, Mul, Div, Eq, Lt, Gt, Le, Ge, And, Or, PtrAdd}
 use Rattle.arith.specs.Word.{W, least, minus-one, addW, subW, mulW, divW, ltW}
-use Rattle.arith.specs.Value.{Val, int, float, literal, char, bool, pointer, typeOf, inRange, has-type}
+use Rattle.arith.specs.Value.{Val, int, float, literal, char, bool, pointer, is-pointer, scalar, typeOf, inRange, has-type}
 use Rattle.arith.specs.Operation.{by-zero, overflow, Result, ok, stops, unset, asInt, asBool, with-both, with-one, divide, shift, apply1, apply2, Expr, constant, one, two, eval}
 use Rattle.arith.specs.Code.{code1, code2, ones, twos}
 
@@ -108,3 +108,13 @@ pub typed-others :
     true ∷ true ∷ false ∷ true ∷ true ∷ false ∷ false ∷ []
 unfolding xor addW subW mulW divW ltW typeOf inRange asInt asBool with-both with-one divide shift apply1 apply2 eval code1 code2
 typed-others = refl
+
+-- the edges of the pointer types, and of the Unicode scalar values
+pub edges :
+    map is-pointer (0x00 ∷ 0x03 ∷ 0x0F ∷ 0x10 ∷ 0x13 ∷ 0xF3 ∷ []) ∷
+    map scalar (0 ∷ 0xD7FF ∷ 0xD800 ∷ 0xDFFF ∷ 0xE000 ∷ 0x10FFFF ∷ 0x110000 ∷ []) ∷
+    [] ≡
+    (false ∷ false ∷ false ∷ true ∷ true ∷ true ∷ []) ∷
+    (true ∷ true ∷ false ∷ false ∷ true ∷ true ∷ false ∷ []) ∷
+    []
+edges = refl

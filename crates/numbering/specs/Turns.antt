@@ -8,13 +8,14 @@ use lib.ListN.{length}
 use Rattle.arith.specs.Code.{code1, code2, with-code, one-of, two-of}
 use Rattle.arith.specs.Map.{upd}
 use Rattle.arith.specs.Operation.{asInt, asBool, with-both, with-one, divide, shift, apply1, apply2}
+use Rattle.arith.specs.Value.{int, float, literal, char, bool}
 use Rattle.arith.specs.Word.{addW, subW, mulW, divW, ltW}
 use Rattle.record.specs.Form.{value-of, form}
 use Rattle.record.specs.Record.{Instr, type-in}
 use Rattle.record.specs.Shape.{shape-of}
 use Rattle.record.specs.Short.{gives, asks, set, does, tells, chooses, goes}
 use Rattle.record.specs.Tables.{count}
-use Rattle.numbering.specs.Number.{reads, numbered, make-val, val-to-instr, save, save-at, handle-overwrite, find, get-val-num, number-dest, place, by-form, instr-lvn, block-lvn, is-save, count-saves, blocks-lvn, saved-in, made-from, lvn}
+use Rattle.numbering.specs.Number.{reads, numbered, literal-for, make-val, val-to-instr, save, save-at, handle-overwrite, find, get-val-num, number-dest, place, by-form, instr-lvn, block-lvn, is-save, count-saves, blocks-lvn, saved-in, made-from, lvn}
 use Rattle.numbering.specs.Simplify.{folded, fold1, fold2, is-int, is-bool, identity, ordered, simplify1, simplify2, simplify}
 use Rattle.numbering.specs.State.{start, new-number, update-env, rehome, see, gen-new-vals, number-of, home-of, known-value, known-expr, known}
 
@@ -166,6 +167,12 @@ rows = left-to-right ++ (literals-twice ++ (homes-for-arguments ++ saves-made))
 pub turns : map (λ r. turned (r .0) (r .1) (r .2)) rows ≡ map (λ r. r .3) rows
 unfolding code1 code2 with-code one-of two-of upd asInt asBool with-both with-one divide shift apply1 apply2 addW subW mulW divW ltW value-of form type-in shape-of count reads numbered make-val val-to-instr save save-at handle-overwrite find get-val-num number-dest place by-form instr-lvn block-lvn is-save count-saves blocks-lvn saved-in made-from lvn folded fold1 fold2 is-int is-bool identity ordered simplify1 simplify2 simplify start new-number update-env rehome see gen-new-vals number-of home-of known-value known-expr known xor ℕ-discrete
 turns = refl
+
+-- the literal that a value is written as
+pub literals-for :
+    map literal-for (int 7 ∷ float 7 ∷ literal 7 ∷ char 7 ∷ bool false ∷ bool true ∷ []) ≡
+    map (λ (p : ℕ × ℕ). record { kind = p .0; bits = p .1 }) ((0, 7) ∷ (2, 7) ∷ (0, 7) ∷ (3, 7) ∷ (1, 0) ∷ (1, 1) ∷ [])
+literals-for = refl
 
 -- ---- values that are new each time: x = c (a, b); y = c (a, b); z = id y, for each of the codes 20 to 38
 abbrev pub twice : ℕ → List Instr
