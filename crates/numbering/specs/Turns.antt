@@ -78,6 +78,7 @@ literals-twice =
     -- an int and a bool are known
     literal-twice 0x00 0 7 (set 2 1 0 7 ∷ set 3 2 0 7 ∷ []) ∷
     literal-twice 0x01 1 1 (set 2 1 1 1 ∷ set 3 2 1 1 ∷ []) ∷
+    literal-twice 0x01 1 0 (set 2 1 1 0 ∷ set 3 2 1 0 ∷ []) ∷
     -- a float and a char are new each time
     literal-twice 0x02 2 7 (set 2 1 2 7 ∷ gives 3 2 13 (1 ∷ []) ∷ []) ∷
     literal-twice 0x03 3 65 (set 2 1 3 65 ∷ gives 3 2 13 (1 ∷ []) ∷ []) ∷
@@ -125,6 +126,8 @@ saves-made =
     (0, ints, gives 1 3 1 (3 ∷ 3 ∷ []) ∷ [], gives 1 6 13 (3 ∷ []) ∷ gives 1 3 1 (3 ∷ 3 ∷ []) ∷ []) ∷
     -- c = not c, c a bool and an argument
     (1, 0x01 ∷ [], gives 1 0 10 (0 ∷ []) ∷ [], gives 1 1 13 (0 ∷ []) ∷ gives 1 0 10 (0 ∷ []) ∷ []) ∷
+    -- d = not c; e = not c, bools: the second has the number of the first
+    (1, 0x01 ∷ 0x01 ∷ 0x01 ∷ [], gives 1 1 10 (0 ∷ []) ∷ gives 2 2 10 (0 ∷ []) ∷ [], gives 1 1 10 (0 ∷ []) ∷ gives 2 2 13 (1 ∷ []) ∷ []) ∷
     -- a = call 7 (a), a an argument
     (1, ints, asks 1 0 7 (0 ∷ []) ∷ [], gives 1 6 13 (0 ∷ []) ∷ asks 1 0 7 (0 ∷ []) ∷ []) ∷
     -- a = 1, a an argument that nothing reads
