@@ -8,8 +8,8 @@ use Rattle.arith.specs.declared.One.the-variants.{Not, Id}
 use Rattle.arith.specs.declared.Two.{Two}
 use Rattle.arith.specs.declared.Two.the-variants.{Add, Sub, Mul, Div, Eq, Lt, Gt, Le, Ge, And, Or, PtrAdd}
 use Rattle.arith.specs.Word.{W, least, minus-one, addW, subW, mulW, divW, ltW}
-use Rattle.arith.specs.Value.{Val, int, float, literal, char, bool, pointer, is-pointer, scalar, typeOf, inRange, has-type}
-use Rattle.arith.specs.Operation.{by-zero, overflow, Result, ok, stops, unset, asInt, asBool, with-both, with-one, divide, shift, apply1, apply2, Expr, constant, one, two, eval}
+use Rattle.arith.specs.Value.{int, float, literal, char, bool, pointer, is-pointer, scalar, typeOf, inRange, has-type}
+use Rattle.arith.specs.Operation.{by-zero, overflow, Result, ok, stops, unset, asInt, asBool, with-both, with-one, divide, shift, apply1, apply2, two, eval}
 use Rattle.arith.specs.Code.{code1, code2, ones, twos}
 
 -- the word of -n

@@ -6,7 +6,7 @@ use mathlib.Core.List.{List, [], _∷_, map}
 use mathlib.Core.Option.{none, some}
 use native.Mathlib.Decide.{ℕ-discrete}
 use Rattle.arith.specs.Value.{int, bool}
-use Rattle.record.specs.Record.{nm, no-lit, Instr, Function}
+use Rattle.record.specs.Record.{Instr, Function}
 use Rattle.arith.specs.Code.{code1, code2, with-code, one-of, two-of}
 use Rattle.arith.specs.Map.{upd}
 use Rattle.arith.specs.Operation.{asInt, asBool, with-both, with-one, divide, apply1, apply2, eval}
@@ -14,13 +14,10 @@ use Rattle.arith.specs.Value.{typeOf, inRange}
 use Rattle.arith.specs.Word.{addW}
 use Rattle.record.specs.Form.{form}
 use Rattle.record.specs.Record.{type-in}
+use Rattle.record.specs.Short.{gives, does, chooses, goes}
 use Rattle.machine.specs.Machine.{Store, Answer, value, go-on, halt, tick, assign, happens, read-all, finish, take-value, answered, perform, ask, acknowledged, tell, leave, choose, act, step, run-block, nth, arrive, passes, through, advance-from, advance, begin, iterate, run-with, run}
 use Rattle.machine.specs.Reached.{reached-in, reached-from, reached-with, reached, is-set, all-set, none-unset, read-no-unset}
 use Rattle.machine.specs.Examples.{values-in, store-of}
-
--- id, code, dest, arguments, block numbers
-abbrev op : ℕ → ℕ → ℕ → List ℕ → List ℕ → Instr
-op i c d xs bs = record { id = i; code = c; dest = nm d; lit = no-lit; args = map nm xs; callee = 0; blocks = bs }
 
 -- names: 0 an int that is set, 1 the int 0, 2 and 3 ints that are not set, 4 a bool that is set
 abbrev func : List (List Instr) → Function
@@ -45,33 +42,33 @@ unread bs answers n = read-no-unset (func bs) σ answers n
 -- x = id a | print y, x; ret | print x: an unset name is read in the second block
 abbrev in-second : List (List Instr)
 in-second =
-    (op 1 13 2 (0 ∷ []) [] ∷ []) ∷
-    (op 2 68 0 (3 ∷ 2 ∷ []) [] ∷ op 3 66 0 [] [] ∷ []) ∷
-    (op 4 68 0 (2 ∷ []) [] ∷ []) ∷ []
+    (gives 1 2 13 (0 ∷ []) ∷ []) ∷
+    (does 2 68 (3 ∷ 2 ∷ []) ∷ does 3 66 [] ∷ []) ∷
+    (does 4 68 (2 ∷ []) ∷ []) ∷ []
 
 -- print a | ret: x and y are passed by
 abbrev passed-by : List (List Instr)
-passed-by = (op 1 68 0 (0 ∷ []) [] ∷ []) ∷ (op 2 66 0 [] [] ∷ []) ∷ []
+passed-by = (does 1 68 (0 ∷ []) ∷ []) ∷ (does 2 66 [] ∷ []) ∷ []
 
 -- x = div a z; print y: the division stops
 abbrev behind-stop : List (List Instr)
-behind-stop = (op 1 4 2 (0 ∷ 1 ∷ []) [] ∷ op 2 68 0 (3 ∷ []) [] ∷ []) ∷ []
+behind-stop = (gives 1 2 4 (0 ∷ 1 ∷ []) ∷ does 2 68 (3 ∷ []) ∷ []) ∷ []
 
 -- nop; jmp 2; print y | print y | br c 3 1 | ret a
 abbrev jumped-over : List (List Instr)
 jumped-over =
-    (op 1 69 0 [] [] ∷ op 2 64 0 [] (2 ∷ []) ∷ op 3 68 0 (3 ∷ []) [] ∷ []) ∷
-    (op 4 68 0 (3 ∷ []) [] ∷ []) ∷
-    (op 5 65 0 (4 ∷ []) (3 ∷ 1 ∷ []) ∷ []) ∷
-    (op 6 66 0 (0 ∷ []) [] ∷ []) ∷ []
+    (does 1 69 [] ∷ goes 2 2 ∷ does 3 68 (3 ∷ []) ∷ []) ∷
+    (does 4 68 (3 ∷ []) ∷ []) ∷
+    (chooses 5 4 3 1 ∷ []) ∷
+    (does 6 66 (0 ∷ []) ∷ []) ∷ []
 
 -- print a; x = call; jmp 0: over and over, with an answer for each event
 abbrev over-again : List (List Instr)
-over-again = (op 1 68 0 (0 ∷ []) [] ∷ op 2 20 2 [] [] ∷ op 3 64 0 [] (0 ∷ []) ∷ []) ∷ []
+over-again = (does 1 68 (0 ∷ []) ∷ gives 2 2 20 [] ∷ goes 3 0 ∷ []) ∷ []
 
 -- x = id a | x = add x a; ret x: the second block reads what the first has set
 abbrev set-before : List (List Instr)
-set-before = (op 1 13 2 (0 ∷ []) [] ∷ []) ∷ (op 2 1 2 (2 ∷ 0 ∷ []) [] ∷ op 3 66 0 (2 ∷ []) [] ∷ []) ∷ []
+set-before = (gives 1 2 13 (0 ∷ []) ∷ []) ∷ (gives 2 2 1 (2 ∷ 0 ∷ []) ∷ does 3 66 (2 ∷ []) ∷ []) ∷ []
 
 -- ---- what they come to
 pub come-to :
@@ -124,19 +121,19 @@ has-read-no-unset = refl
 -- the instruction before has set; br, ret and a call
 pub reads-unset :
     map (λ is. unread (is ∷ []) (go-on ∷ go-on ∷ []) 1) (
-    (op 1 68 0 (2 ∷ 0 ∷ 0 ∷ []) [] ∷ []) ∷
-    (op 1 68 0 (0 ∷ 2 ∷ 0 ∷ []) [] ∷ []) ∷
-    (op 1 68 0 (0 ∷ 0 ∷ 2 ∷ []) [] ∷ []) ∷
-    (op 1 68 0 (0 ∷ 0 ∷ 0 ∷ []) [] ∷ []) ∷
-    (op 1 68 0 (2 ∷ []) [] ∷ op 2 69 0 [] [] ∷ op 3 69 0 [] [] ∷ []) ∷
-    (op 1 69 0 [] [] ∷ op 2 68 0 (2 ∷ []) [] ∷ op 3 69 0 [] [] ∷ []) ∷
-    (op 1 69 0 [] [] ∷ op 2 69 0 [] [] ∷ op 3 68 0 (2 ∷ []) [] ∷ []) ∷
-    (op 1 1 2 (2 ∷ 0 ∷ []) [] ∷ []) ∷
-    (op 1 1 2 (0 ∷ 2 ∷ []) [] ∷ []) ∷
-    (op 1 1 2 (0 ∷ 1 ∷ []) [] ∷ op 2 68 0 (2 ∷ []) [] ∷ []) ∷
-    (op 1 65 0 (2 ∷ []) (0 ∷ 0 ∷ []) ∷ []) ∷
-    (op 1 66 0 (2 ∷ []) [] ∷ []) ∷
-    (op 1 20 2 (2 ∷ []) [] ∷ []) ∷
+    (does 1 68 (2 ∷ 0 ∷ 0 ∷ []) ∷ []) ∷
+    (does 1 68 (0 ∷ 2 ∷ 0 ∷ []) ∷ []) ∷
+    (does 1 68 (0 ∷ 0 ∷ 2 ∷ []) ∷ []) ∷
+    (does 1 68 (0 ∷ 0 ∷ 0 ∷ []) ∷ []) ∷
+    (does 1 68 (2 ∷ []) ∷ does 2 69 [] ∷ does 3 69 [] ∷ []) ∷
+    (does 1 69 [] ∷ does 2 68 (2 ∷ []) ∷ does 3 69 [] ∷ []) ∷
+    (does 1 69 [] ∷ does 2 69 [] ∷ does 3 68 (2 ∷ []) ∷ []) ∷
+    (gives 1 2 1 (2 ∷ 0 ∷ []) ∷ []) ∷
+    (gives 1 2 1 (0 ∷ 2 ∷ []) ∷ []) ∷
+    (gives 1 2 1 (0 ∷ 1 ∷ []) ∷ does 2 68 (2 ∷ []) ∷ []) ∷
+    (chooses 1 2 0 0 ∷ []) ∷
+    (does 1 66 (2 ∷ []) ∷ []) ∷
+    (gives 1 2 20 (2 ∷ []) ∷ []) ∷
     []
     ) ≡
     false ∷ false ∷ false ∷ true ∷ false ∷ false ∷ false ∷ false ∷ false ∷ true ∷ false ∷ false ∷ false ∷ []

@@ -1,7 +1,7 @@
 -- Rewrite and the program by example: refusals, untouched bytes and lines; and the samples whose runs are computed.
 use Prim.Native.Nat.{ℕ}
 use mathlib.Core.Path.{_≡_, refl}
-use mathlib.Core.Bool.{Bool, true, false, xor}
+use mathlib.Core.Bool.{true, xor}
 use mathlib.Core.List.{List, [], _∷_, map}
 use native.Mathlib.Decide.{ℕ-discrete}
 use lib.ListN.{replicate}

@@ -26,7 +26,7 @@ use Rattle.record.specs.Typing.{obeys, well-typed, body-types, block-types, acc
 use Rattle.numbering.specs.Number.{reads, numbered, make-val, val-to-instr, save, save-at, handle-overwrite, find, get-val-num, number-dest, place, by-form, instr-lvn, block-lvn, is-save, count-saves, blocks-lvn, saved-in, made-from, lvn}
 use Rattle.numbering.specs.Simplify.{folded, fold1, fold2, is-int, is-bool, identity, ordered, simplify1, simplify2, simplify}
 use Rattle.numbering.specs.State.{start, new-number, update-env, rehome, see, gen-new-vals, number-of, home-of, known-value, known-expr, known}
-use Rattle.machine.specs.Machine.{Answer, value, go-on, halt, at-end, at-ret, at-halt, at-unset, at-division, before, stopped, tick, assign, happens, read-all, finish, take-value, answered, perform, ask, acknowledged, tell, leave, choose, act, step, run-block, nth, arrive, passes, through, advance-from, advance, begin, iterate, run-with, run}
+use Rattle.machine.specs.Machine.{Answer, value, go-on, at-end, at-ret, at-halt, at-unset, at-division, before, stopped, tick, assign, happens, read-all, finish, take-value, answered, perform, ask, acknowledged, tell, leave, choose, act, step, run-block, nth, arrive, passes, through, advance-from, advance, begin, iterate, run-with, run}
 use Rattle.machine.specs.Reached.{reached-in, reached-from, reached-with, reached, is-set, all-set, none-unset, read-no-unset}
 use Rattle.machine.specs.Examples.{Summary, summary, store-of, function-of, event}
 use Rattle.pairing.specs.Demand.{next-block, stop, shown, saves-passed, saves-before, count-dests}

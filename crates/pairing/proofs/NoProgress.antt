@@ -1,13 +1,14 @@
 -- What is no progress: runs, written out, that have stopped as unset where every argument is set or where nothing stands, or that hold a
 -- value of another type. So the statement of progress says something.
-use Prim.Native.Nat.{ℕ, _<_}
+use Prim.Native.Nat.{ℕ}
 use mathlib.Core.Path.{_≡_, refl, sym, subst}
 use mathlib.Core.Bool.{true, false, true≢false}
 use mathlib.Core.List.{List, [], _∷_}
 use mathlib.Core.Option.{Option, none, some, Option·none-ne-some, Option·some-injective}
 use native.Mathlib.Omega.{arith}
 use Rattle.arith.specs.Value.{Val, int, bool, typeOf, inRange}
-use Rattle.record.specs.Record.{nm, no-lit, Instr, Function, type-in}
+use Rattle.record.specs.Record.{nm, Instr, Function, type-in}
+use Rattle.record.specs.Short.{gives}
 use Rattle.machine.specs.Machine.{at-unset, at-end, Stop, stopped, Run, nth}
 use Rattle.machine.specs.Reached.{is-set, all-set}
 use Rattle.machine.specs.Examples.{store-of}
@@ -15,7 +16,7 @@ use Rattle.pairing.specs.Progress.{ReadsUnset, Progress}
 
 -- a = add a b, over ints
 abbrev adds : Instr
-adds = record { id = 1; code = 1; dest = nm 0; lit = no-lit; args = nm 0 ∷ nm 1 ∷ []; callee = 0; blocks = [] }
+adds = gives 1 0 1 (0 ∷ 1 ∷ [])
 
 abbrev func : Function
 func = record { args = 1; types = 0 ∷ 0 ∷ []; blocks = record { saves = 0; body = adds ∷ [] } ∷ [] }

@@ -10,15 +10,16 @@ use Rattle.record.specs.Record.{Instr, Block, Function}
 use Rattle.record.specs.Shape.{shape-of}
 use Rattle.numbering.specs.Number.{is-save, count-saves}
 use Rattle.machine.specs.Machine.{at-end, at-ret, at-halt, at-division, before, stopped, nth}
+use Rattle.record.specs.Short.{gives, goes}
 use Rattle.pairing.specs.Demand.{saves-field, body-of, saves-passed, saves-before, count-dests, SavesBounded}
-use Rattle.pairing.specs.Wrong.{const, op, print, nop, jmp, ret, id, saving, body, fn}
+use Rattle.pairing.specs.Wrong.{const, print, nop, ret, id, saving, body, fn}
 
 -- ---- "No block has more saves than the same block of the input has instructions with a destination."
 -- three blocks: two instructions with a dest among four; none among three; one
 abbrev bounded : Function
 bounded =
     fn 1 (tint ∷ [])
-    (body (const 1 0 7 ∷ print 2 0 ∷ id 3 0 0 ∷ nop 4 ∷ []) ∷ body (print 5 0 ∷ nop 6 ∷ jmp 7 2 ∷ []) ∷ body (const 8 0 7 ∷ ret 9 0 ∷ []) ∷ [])
+    (body (const 1 0 7 ∷ print 2 0 ∷ id 3 0 0 ∷ nop 4 ∷ []) ∷ body (print 5 0 ∷ nop 6 ∷ goes 7 2 ∷ []) ∷ body (const 8 0 7 ∷ ret 9 0 ∷ []) ∷ [])
 
 -- a rewriting with these saves filed for its blocks
 abbrev filing : List ℕ → Function
@@ -54,7 +55,7 @@ bound-refuses =
 -- ---- rows
 -- which instructions have a destination, by their codes
 abbrev dests-of : ℕ → ℕ
-dests-of c = count-dests (op 1 0 c [] ∷ [])
+dests-of c = count-dests (gives 1 0 c [] ∷ [])
 
 pub destinations-by-code :
     map dests-of (0 ∷ 1 ∷ 9 ∷ 10 ∷ 13 ∷ 14 ∷ 20 ∷ 21 ∷ 34 ∷ 35 ∷ 38 ∷ 64 ∷ 65 ∷ 66 ∷ 67 ∷ 68 ∷ 69 ∷ 70 ∷ 71 ∷ []) ≡

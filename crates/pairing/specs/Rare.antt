@@ -6,9 +6,10 @@ use mathlib.Core.List.{List, [], _∷_}
 use mathlib.Core.Option.{Option, none, some}
 use Rattle.arith.specs.Word.{least}
 use Rattle.arith.specs.Value.{tint, tbool, Val, int, bool}
-use Rattle.record.specs.Record.{nm, Instr, Block, Function}
+use Rattle.record.specs.Record.{Instr, Block, Function}
+use Rattle.record.specs.Short.{gives, set, chooses}
 use Rattle.machine.specs.Machine.{Answer, value, go-on, halt}
-use Rattle.pairing.specs.Wrong.{literal-in, const, op, does, print, nop, id, saving, body, fn, just, Case, from, next-block-other}
+use Rattle.pairing.specs.Wrong.{const, print, nop, id, saving, body, fn, just, Case, from, next-block-other}
 
 -- the same two functions, run otherwise
 abbrev instead : Case → List (Option Val) → List Answer → ℕ → Case
@@ -33,8 +34,8 @@ copies-early =
 abbrev wraps : ℕ → Instr → Instr → Case
 wraps a i j =
     from (some (int 0x7FFF_FFFF_FFFF_FFFF) ∷ none ∷ none ∷ none ∷ []) (value (int 0x7FFF_FFFF_FFFF_FFFF) ∷ []) 1
-    (just a (tint ∷ tint ∷ tint ∷ tbool ∷ []) (i ∷ const 2 1 1 ∷ op 3 2 1 (nm 0 ∷ nm 1 ∷ []) ∷ op 4 3 7 (nm 2 ∷ nm 0 ∷ []) ∷ []))
-    (just a (tint ∷ tint ∷ tint ∷ tbool ∷ []) (j ∷ const 2 1 1 ∷ op 3 2 1 (nm 0 ∷ nm 1 ∷ []) ∷ literal-in 4 3 1 1 ∷ []))
+    (just a (tint ∷ tint ∷ tint ∷ tbool ∷ []) (i ∷ const 2 1 1 ∷ gives 3 2 1 (0 ∷ 1 ∷ []) ∷ gives 4 3 7 (2 ∷ 0 ∷ []) ∷ []))
+    (just a (tint ∷ tint ∷ tint ∷ tbool ∷ []) (j ∷ const 2 1 1 ∷ gives 3 2 1 (0 ∷ 1 ∷ []) ∷ set 4 3 1 1 ∷ []))
 
 abbrev pub greatest-argument : Case
 greatest-argument = wraps 1 (nop 1) (nop 1)
@@ -44,13 +45,13 @@ greatest-argument = wraps 1 (nop 1) (nop 1)
 abbrev pub rare-argument : Case
 rare-argument =
     from (some (int 0x1234_5678_9ABC_DEF0) ∷ none ∷ none ∷ []) [] 1
-    (just 1 (tint ∷ tint ∷ tbool ∷ []) (const 1 1 0x1234_5678_9ABC_DEF0 ∷ op 2 2 5 (nm 0 ∷ nm 1 ∷ []) ∷ []))
-    (just 1 (tint ∷ tint ∷ tbool ∷ []) (const 1 1 0x1234_5678_9ABC_DEF0 ∷ literal-in 2 2 1 0 ∷ []))
+    (just 1 (tint ∷ tint ∷ tbool ∷ []) (const 1 1 0x1234_5678_9ABC_DEF0 ∷ gives 2 2 5 (0 ∷ 1 ∷ []) ∷ []))
+    (just 1 (tint ∷ tint ∷ tbool ∷ []) (const 1 1 0x1234_5678_9ABC_DEF0 ∷ set 2 2 1 0 ∷ []))
 
 abbrev pub false-argument : Case
 false-argument =
     from (some (bool true) ∷ some (bool false) ∷ none ∷ []) [] 1
-    (just 2 (tbool ∷ tbool ∷ tbool ∷ []) (op 1 2 11 (nm 0 ∷ nm 1 ∷ []) ∷ []))
+    (just 2 (tbool ∷ tbool ∷ tbool ∷ []) (gives 1 2 11 (0 ∷ 1 ∷ []) ∷ []))
     (just 2 (tbool ∷ tbool ∷ tbool ∷ []) (id 1 2 0 ∷ []))
 
 -- a function that reads a name beyond its own, which is made: it is not like itself
@@ -60,7 +61,7 @@ reads-made = just 0 [] (print 1 0 ∷ [])
 -- ---- answers
 -- and where a, which a call gives, is the greatest int
 abbrev pub greatest-answer : Case
-greatest-answer = wraps 0 (op 1 0 20 []) (op 1 0 20 [])
+greatest-answer = wraps 0 (gives 1 0 20 []) (gives 1 0 20 [])
 
 -- name 1 is written before the print and not behind it: unlike where the answer to the print does not let the run go on
 abbrev pub writes-early : Case
@@ -80,8 +81,8 @@ behind-answers =
 abbrev pub takes-bool : Case
 takes-bool =
     from (none ∷ []) (value (bool true) ∷ []) 1
-    (just 0 (4 ∷ []) (op 1 0 20 [] ∷ []))
-    (fn 0 (4 ∷ tbool ∷ []) (saving 1 (op 1 1 20 [] ∷ []) ∷ []))
+    (just 0 (4 ∷ []) (gives 1 0 20 [] ∷ []))
+    (fn 0 (4 ∷ tbool ∷ []) (saving 1 (gives 1 1 20 [] ∷ []) ∷ []))
 
 -- ---- numbers of blocks
 abbrev pub second-block : Case
@@ -94,7 +95,7 @@ second-block =
 abbrev counting : ℕ → List (Block Instr)
 counting w =
     body (const 1 0 0 ∷ const 2 1 1 ∷ const 3 2 3 ∷ []) ∷
-    body (op 4 0 1 (nm 0 ∷ nm 1 ∷ []) ∷ op 5 3 6 (nm 0 ∷ nm 2 ∷ []) ∷ does 6 65 (nm 3 ∷ []) 0 (1 ∷ 2 ∷ []) ∷ []) ∷
+    body (gives 4 0 1 (0 ∷ 1 ∷ []) ∷ gives 5 3 6 (0 ∷ 2 ∷ []) ∷ chooses 6 3 1 2 ∷ []) ∷
     body (const 7 0 w ∷ []) ∷
     []
 

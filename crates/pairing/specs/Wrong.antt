@@ -6,45 +6,30 @@ use mathlib.Core.List.{List, [], _∷_}
 use mathlib.Core.Option.{Option, none, some}
 use Rattle.arith.specs.Word.{least, minus-one}
 use Rattle.arith.specs.Value.{tint, tbool, tfloat, Val, int, bool}
-use Rattle.record.specs.declared.NameIx.{NameIx}
-use Rattle.record.specs.Record.{nm, no-lit, Instr, Block, Function, names-of}
+use Rattle.record.specs.Record.{Instr, Block, Function, names-of}
+use Rattle.record.specs.Short.{gives, set, does, tells, goes}
 use Rattle.machine.specs.Machine.{Answer, value, go-on, Event, Run, run}
 use Rattle.machine.specs.Examples.{values-in, store-of}
 use Rattle.pairing.specs.Demand.{Shown, shown, saves-passed, saves-before}
 
 -- ---- instructions: id, dest, then the rest; names by number
-abbrev pub literal-in : ℕ → ℕ → ℕ → ℕ → Instr
-literal-in i d k w =
-    record { id = i; code = 0; dest = nm d; lit = record { kind = k; bits = w }; args = []; callee = 0; blocks = [] }
-
 abbrev pub const : ℕ → ℕ → ℕ → Instr
-const i d w = literal-in i d 0 w
-
--- with a dest, by its code
-abbrev pub op : ℕ → ℕ → ℕ → List NameIx → Instr
-op i d c xs = record { id = i; code = c; dest = nm d; lit = no-lit; args = xs; callee = 0; blocks = [] }
-
--- without a dest, by its code: arguments, callee, blocks
-abbrev pub does : ℕ → ℕ → List NameIx → ℕ → List ℕ → Instr
-does i c xs f bs = record { id = i; code = c; dest = nm 0; lit = no-lit; args = xs; callee = f; blocks = bs }
-
-abbrev pub print : ℕ → ℕ → Instr
-print i x = does i 68 (nm x ∷ []) 0 []
-
-abbrev pub nop : ℕ → Instr
-nop i = does i 69 [] 0 []
-
-abbrev pub jmp : ℕ → ℕ → Instr
-jmp i b = does i 64 [] 0 (b ∷ [])
-
-abbrev pub ret : ℕ → ℕ → Instr
-ret i x = does i 66 (nm x ∷ []) 0 []
+const i d w = set i d 0 w
 
 abbrev pub id : ℕ → ℕ → ℕ → Instr
-id i d x = op i d 13 (nm x ∷ [])
+id i d x = gives i d 13 (x ∷ [])
 
 abbrev pub div : ℕ → ℕ → ℕ → ℕ → Instr
-div i d x y = op i d 4 (nm x ∷ nm y ∷ [])
+div i d x y = gives i d 4 (x ∷ y ∷ [])
+
+abbrev pub print : ℕ → ℕ → Instr
+print i x = does i 68 (x ∷ [])
+
+abbrev pub nop : ℕ → Instr
+nop i = does i 69 []
+
+abbrev pub ret : ℕ → ℕ → Instr
+ret i x = does i 66 (x ∷ [])
 
 -- ---- blocks and functions
 abbrev pub saving : ℕ → List Instr → Block Instr
@@ -123,16 +108,16 @@ abbrev pub event-id : Case
 event-id = over-ints (print 4 0 ∷ []) (print 5 0 ∷ [])
 
 abbrev pub event-code : Case
-event-code = over-ints (print 4 0 ∷ []) (does 4 67 (nm 0 ∷ []) 0 [] ∷ [])
+event-code = over-ints (print 4 0 ∷ []) (tells 4 0 (0 ∷ []) ∷ [])
 
 abbrev pub event-callee : Case
-event-callee = over-ints (does 4 67 [] 1 [] ∷ []) (does 4 67 [] 2 [] ∷ [])
+event-callee = over-ints (tells 4 1 [] ∷ []) (tells 4 2 [] ∷ [])
 
 abbrev pub event-argument : Case
 event-argument = over-ints (print 4 0 ∷ []) (print 4 1 ∷ [])
 
 abbrev pub event-arguments : Case
-event-arguments = over-ints (print 4 0 ∷ []) (does 4 68 (nm 0 ∷ nm 1 ∷ []) 0 [] ∷ [])
+event-arguments = over-ints (print 4 0 ∷ []) (does 4 68 (0 ∷ 1 ∷ []) ∷ [])
 
 abbrev pub event-order : Case
 event-order = over-ints (print 4 0 ∷ print 5 1 ∷ []) (print 5 1 ∷ print 4 0 ∷ [])
@@ -169,18 +154,18 @@ nothing-for-value = over-three tint (const 1 1 7) (nop 1)
 
 -- "Values are compared exactly, floats by bits": 0.0 and -0.0; the float 0.0 and the literal 0
 abbrev pub value-bits : Case
-value-bits = over-three tfloat (literal-in 1 1 2 0) (literal-in 1 1 2 least)
+value-bits = over-three tfloat (set 1 1 2 0) (set 1 1 2 least)
 
 abbrev pub value-literal : Case
-value-literal = over-three tfloat (literal-in 1 1 2 0) (literal-in 1 1 0 0)
+value-literal = over-three tfloat (set 1 1 2 0) (set 1 1 0 0)
 
 -- ---- "the same next block or the same stop"
 -- a jump to another block that does the same: the runs differ before it and at no other time
 abbrev pub next-block-other : Case
 next-block-other =
     from (some (int 3) ∷ []) [] 1
-    (fn 1 (tint ∷ []) (body (jmp 1 1 ∷ []) ∷ body (ret 5 0 ∷ []) ∷ body (ret 5 0 ∷ []) ∷ []))
-    (fn 1 (tint ∷ []) (body (jmp 1 2 ∷ []) ∷ body (ret 5 0 ∷ []) ∷ body (ret 5 0 ∷ []) ∷ []))
+    (fn 1 (tint ∷ []) (body (goes 1 1 ∷ []) ∷ body (ret 5 0 ∷ []) ∷ body (ret 5 0 ∷ []) ∷ []))
+    (fn 1 (tint ∷ []) (body (goes 1 2 ∷ []) ∷ body (ret 5 0 ∷ []) ∷ body (ret 5 0 ∷ []) ∷ []))
 
 -- the end, and a block that follows
 abbrev pub end-or-block : Case
@@ -210,8 +195,8 @@ stop-kind = dividing (div 2 3 0 1) (id 2 3 3)
 abbrev pub stop-halt : Case
 stop-halt =
     from (none ∷ []) (value (bool true) ∷ []) 1
-    (just 0 (tint ∷ []) (op 1 0 20 [] ∷ []))
-    (fn 0 (tint ∷ tbool ∷ tint ∷ []) (saving 1 (op 1 1 20 [] ∷ id 2 0 2 ∷ []) ∷ []))
+    (just 0 (tint ∷ []) (gives 1 0 20 [] ∷ []))
+    (fn 0 (tint ∷ tbool ∷ tint ∷ []) (saving 1 (gives 1 1 20 [] ∷ id 2 0 2 ∷ []) ∷ []))
 
 -- ---- "exactly as many more steps as the saves filed": names 0 and 1 are 3 and 0, name 2 is made
 abbrev stepping : ℕ → List Instr → List Instr → Case
@@ -251,5 +236,5 @@ filed-elsewhere =
 abbrev pub passed-other : Case
 passed-other =
     from [] [] 2
-    (fn 0 [] (body (jmp 1 1 ∷ []) ∷ body (jmp 2 3 ∷ []) ∷ body (jmp 2 3 ∷ []) ∷ body [] ∷ []))
-    (fn 0 [] (body (jmp 1 2 ∷ []) ∷ body (jmp 2 3 ∷ []) ∷ body (jmp 2 3 ∷ []) ∷ body [] ∷ []))
+    (fn 0 [] (body (goes 1 1 ∷ []) ∷ body (goes 2 3 ∷ []) ∷ body (goes 2 3 ∷ []) ∷ body [] ∷ []))
+    (fn 0 [] (body (goes 1 2 ∷ []) ∷ body (goes 2 3 ∷ []) ∷ body (goes 2 3 ∷ []) ∷ body [] ∷ []))

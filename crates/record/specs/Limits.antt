@@ -2,8 +2,8 @@
 use Prim.Native.Nat.{ℕ, _+_, _/_, _%_}
 use Prim.Native.String.{String}
 use mathlib.Core.Path.{_≡_, refl}
-use mathlib.Core.List.{List, [], _∷_, _++_, map, flatMap}
-use lib.ListN.{length, replicate}
+use mathlib.Core.List.{List, [], _∷_, _++_, flatMap}
+use lib.ListN.{replicate}
 use Rattle.record.specs.Answer.{Returned, number, check-answer, checked}
 use Rattle.record.specs.Hex.{digit-value, bytes-from, hex}
 use Rattle.record.specs.Read.{name-index, arguments, operands, instr, block, name, names, length-field, end, contents, read}

@@ -3,7 +3,6 @@ use Prim.Native.Nat.{ℕ}
 use Prim.Native.String.{String}
 use mathlib.Core.Path.{_≡_, refl}
 use mathlib.Core.List.{List, [], _∷_, _++_, map, flatMap}
-use lib.ListN.{length}
 use Rattle.record.specs.Answer.{Returned, number, check-answer, checked}
 use Rattle.record.specs.Hex.{digit-value, bytes-from, hex}
 use Rattle.record.specs.Read.{name-index, literal, operands, instr, block, name, names, length-field, end, contents, read}
