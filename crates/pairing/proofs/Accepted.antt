@@ -1,11 +1,11 @@
 -- What an accepted function satisfies: names below N, destinations where the form has one, terminators last, and types.
 -- From the tests that its record passes, the ranges of its numbers, and the rules of its codes.
-use Prim.Native.Nat.{ℕ, zero, suc, _<_, _≤_, _^_}
+use Prim.Native.Nat.{ℕ, _<_, _^_}
 use mathlib.Core.Path.{_≡_, refl, sym, ap, _∙_, subst}
 use mathlib.Core.List.{List, [], _∷_}
 use mathlib.Core.Bool.{Bool, true, false, not, _&&_, _||_}
 use native.Mathlib.Omega.{arith}
-use lib.ListN.{length, getD, length-map}
+use lib.ListN.{length, length-map}
 use lib.Dec.{T, eqb}
 use lib.Ieee.Bits.{is-true}
 use borrow.Author.Tests.{eqb-true}
@@ -16,18 +16,19 @@ use Rattle.record.specs.declared.NameIx.{NameIx}
 use Rattle.record.specs.declared.Shape.{Shape}
 use Rattle.record.specs.declared.Limits.{Limits}
 use Rattle.record.specs.Record.{nm, Bytes, Instr, Placed, Block, Record, function, plain, type-in, arg, limits}
-use Rattle.record.specs.Shape.{shape-of, value}
+use Rattle.record.specs.Shape.{shape-of}
 use Rattle.record.specs.Reader.{got}
 use Rattle.record.specs.Form.{Form, pure, branch, form, value-of}
 use Rattle.record.specs.Typing.{well-typed, accept}
 use Rattle.record.specs.Good.{There, Each, IndexOk, ArgsOk, OperandsOk, InstrOk, BlockOk, RecordOk}
 use Rattle.record.specs.Ranged.{RangedInstr, RangedBlock, Ranged}
-use Rattle.record.proofs.Tests.{and-left, and-right, at-most-le, below-lt, names-args, count-few, count-most, code-known, code-last}
-use Rattle.record.proofs.Form.{FormOf, of-constant, of-one, of-two, of-new, of-jump, of-branch, of-return, of-nop, of-effect, form-of, one-shape, two-shape, all-below, at-known}
+use Rattle.record.proofs.Tests.{and-left, and-right, at-most-le, below-lt, names-args, code-known, code-last}
+use Rattle.record.proofs.Form.{FormOf, of-constant, of-one, of-two, of-new, of-jump, of-branch, of-return, of-nop, of-effect, form-of, all-below, at-known}
 use Rattle.record.proofs.Accepted.{read-ok}
 use Rattle.record.proofs.Ranged.{read-ranged}
 use Rattle.record.proofs.Typed.{TypedBody, TypedFunction, accept-typed}
 use Rattle.numbering.specs.Number.{reads}
+use Rattle.numbering.proofs.Codes.{reads-args}
 use Rattle.pairing.specs.Joint.{Typed}
 use Rattle.pairing.specs.Fit.{All, writes, terminates, FitInstr, FitBody, FitFunction}
 use Rattle.pairing.proofs.Rules.{one-typed, two-typed, fits-rule, branch-rule, constant-typed}
@@ -55,11 +56,6 @@ unfolding shape-of form writes terminates one-of two-of with-code code1 code2
 codes-agree t i = refl
 
 -- ---- lists
-pub all-at : {A : Type 0} (P : A → Type 0) (xs : List A) → All P xs → (k : ℕ) (d : A) → k < length xs → P (getD xs k d)
-all-at P [] h k d l = absurd (omega arith)
-all-at P (x ∷ xs) h zero d l = h .0
-all-at P (x ∷ xs) h (suc k) d l = all-at P xs (h .1) k d (omega arith)
-
 indexes-below : (N : ℕ) (xs : List NameIx) → Each (λ left x. IndexOk N x) xs → All (λ x. x .0 < N) xs
 indexes-below N [] h = tt
 indexes-below N (x ∷ xs) h = (below-lt N (x .0) (h .0), indexes-below N xs (h .1))
@@ -67,18 +63,6 @@ indexes-below N (x ∷ xs) h = (below-lt N (x .0) (h .0), indexes-below N xs (h 
 empty : {A : Type 0} (xs : List A) → length xs ≡ 0 → xs ≡ []
 empty [] e = refl
 empty (x ∷ xs) e = absurd (omega arith)
-
--- lists of one and of two
-first-only : {A : Type 0} (xs : List A) (d : A) → length xs ≡ 1 → getD xs 0 d ∷ [] ≡ xs
-first-only [] d e = absurd (omega arith)
-first-only (x ∷ []) d e = refl
-first-only (x ∷ y ∷ xs) d e = absurd (omega arith)
-
-two-only : {A : Type 0} (xs : List A) (d : A) → length xs ≡ 2 → getD xs 0 d ∷ getD xs 1 d ∷ [] ≡ xs
-two-only [] d e = absurd (omega arith)
-two-only (x ∷ []) d e = absurd (omega arith)
-two-only (x ∷ y ∷ []) d e = refl
-two-only (x ∷ y ∷ z ∷ xs) d e = absurd (omega arith)
 
 -- ---- an instruction that passes its tests
 module _ {N B left : ℕ} (t : NameIx → ℕ) (i : Instr) (ok : InstrOk N B left i) where
@@ -116,52 +100,9 @@ module _ {N B left : ℕ} (t : NameIx → ℕ) (i : Instr) (ok : InstrOk N B lef
       go sh true xs h = indexes-below N xs (h .each)
       go sh false xs h = rw h tt
 
-  arg-below : (k : ℕ) → k < length (i .args) → arg i k .0 < N
-  arg-below k h = all-at (λ x. x .0 < N) (i .args) args-below k (nm 0) h
-
-  reads-below : {f : Form} → FormOf t i f → All (λ x. x .0 < N) (reads f)
-  unfolding reads shape-of
-  reads-below (of-constant e) = tt
-  reads-below (of-one o e) =
-      let h = operands-of (value 1) (ap shape-of (sym e) ∙ one-shape o) in
-      (arg-below 0 (count-few (value 1) (length (i .args)) (h .args .count)), tt)
-  reads-below (of-two o e) =
-      let h = operands-of (value 2) (ap shape-of (sym e) ∙ two-shape o) in
-      let l : 2 ≤ length (i .args) = count-few (value 2) (length (i .args)) (h .args .count) in
-      (arg-below 0 (omega arith), (arg-below 1 (omega arith), tt))
-  reads-below of-new = args-below
-  reads-below (of-jump e) = tt
-  reads-below (of-branch e) =
-      let h = operands-of (shape-of 65) (ap shape-of e) in
-      (arg-below 0 (count-few (shape-of 65) (length (i .args)) (h .args .count)), tt)
-  reads-below (of-return e) = args-below
-  reads-below (of-nop e) = tt
-  reads-below of-effect = args-below
-
-  -- a code that takes n arguments and no more has n
-  counted : (sh : Shape) → shape-of (i .code) ≡ sh → sh .literal ≡ false → sh .few ≡ sh .most → length (i .args) ≡ sh .few
-  counted sh e l n = go (sh .literal) l (operands-of sh e .args)
-    where
-      go : (b : Bool) → b ≡ false → There (not b) (ArgsOk N sh) [] (i .args) → length (i .args) ≡ sh .few
-      go true q h = let z : _≡_ {A = ℕ} 0 1 = cc in absurd (omega arith)
-      go false q h =
-          let few : sh .few ≤ length (i .args) = count-few sh (length (i .args)) (h .count) in
-          let most : length (i .args) ≤ sh .most = count-most sh (length (i .args)) (h .count) in
-          omega arith
-
-  all-args-read : {f : Form} → FormOf t i f → reads f ≡ i .args
-  unfolding reads shape-of
-  all-args-read (of-constant e) = sym (operands-of (shape-of 0) (ap shape-of e) .args)
-  all-args-read (of-one o e) =
-      first-only (i .args) (nm 0) (counted (value 1) (ap shape-of (sym e) ∙ one-shape o) refl refl)
-  all-args-read (of-two o e) =
-      two-only (i .args) (nm 0) (counted (value 2) (ap shape-of (sym e) ∙ two-shape o) refl refl)
-  all-args-read of-new = refl
-  all-args-read (of-jump e) = sym (empty (i .args) (counted (shape-of 64) (ap shape-of e) refl refl))
-  all-args-read (of-branch e) = first-only (i .args) (nm 0) (counted (shape-of 65) (ap shape-of e) refl refl)
-  all-args-read (of-return e) = refl
-  all-args-read (of-nop e) = sym (empty (i .args) (counted (shape-of 69) (ap shape-of e) refl refl))
-  all-args-read of-effect = refl
+  -- what it reads are its arguments
+  read-below : All (λ x. x .0 < N) (reads (form t i))
+  read-below = subst (λ (xs : List NameIx). All (λ x. x .0 < N) xs) (sym (reads-args N B left t i ok)) args-below
 
   -- ---- types
   module _ (range : i .lit .bits < 256 ^ 8) (rule : well-typed t i ≡ true) where
@@ -203,8 +144,8 @@ module _ {N B left : ℕ} (t : NameIx → ℕ) (i : Instr) (ok : InstrOk N B lef
     pub instr-fit : FitInstr N t i
     instr-fit =
         record {
-          args = reads-below (form-of t i);
-          all-read = all-args-read (form-of t i);
+          args = read-below;
+          all-read = reads-args N B left t i ok;
           dest = dest-below;
           shape = dest-writes;
           typed = form-typed (form-of t i);

@@ -18,6 +18,7 @@ use Rattle.machine.specs.Machine.{Store, read-cons, read-all}
 use Rattle.machine.specs.Reached.{is-set, all-set}
 use Rattle.pairing.specs.Joint.{Takes, Typed}
 use Rattle.pairing.specs.Fit.{All}
+use Rattle.pairing.proofs.Typing.{type-is}
 
 -- a value, or a division that stops
 unfoldable pub given : Result → Bool
@@ -26,13 +27,6 @@ given (stops c) = true
 given unset = false
 
 -- ---- a value of a type is one of that kind
-type-of : (s : ℕ) (v : Val) → HasType s v → typeOf v ≡ s
-type-of s v h = go (eqb (typeOf v) s) refl h
-  where
-    go : (b : Bool) → eqb (typeOf v) s ≡ b → T (b && inRange v) → typeOf v ≡ s
-    go true e h = eqb-true (typeOf v) s e
-    go false e h = absurd h
-
 -- a pointer is of no type that is none of a pointer
 not-pointer : {P : Type 0} (s t b o : ℕ) → is-pointer s ≡ false → HasType s (pointer t b o) → P
 unfolding typeOf inRange
@@ -65,11 +59,11 @@ bool-held (pointer t b o) h = not-pointer tbool t b o refl h
 -- ---- the operations on values of their operands' types
 shift-given : (s : ℕ) (v : Val) (k : ℕ) → T (is-pointer s) → HasType s v → given (shift v k) ≡ true
 unfolding typeOf shift given
-shift-given s (int w) k p h = absurd (subst (λ n. T (is-pointer n)) (sym (type-of s (int w) h)) p)
-shift-given s (float b) k p h = absurd (subst (λ n. T (is-pointer n)) (sym (type-of s (float b) h)) p)
-shift-given s (literal w) k p h = absurd (subst (λ n. T (is-pointer n)) (sym (type-of s (literal w) h)) p)
-shift-given s (char c) k p h = absurd (subst (λ n. T (is-pointer n)) (sym (type-of s (char c) h)) p)
-shift-given s (bool b) k p h = absurd (subst (λ n. T (is-pointer n)) (sym (type-of s (bool b) h)) p)
+shift-given s (int w) k p h = absurd (subst (λ n. T (is-pointer n)) (sym (type-is s (int w) h)) p)
+shift-given s (float b) k p h = absurd (subst (λ n. T (is-pointer n)) (sym (type-is s (float b) h)) p)
+shift-given s (literal w) k p h = absurd (subst (λ n. T (is-pointer n)) (sym (type-is s (literal w) h)) p)
+shift-given s (char c) k p h = absurd (subst (λ n. T (is-pointer n)) (sym (type-is s (char c) h)) p)
+shift-given s (bool b) k p h = absurd (subst (λ n. T (is-pointer n)) (sym (type-is s (bool b) h)) p)
 shift-given s (pointer t b o) k p h = refl
 
 divide-given : (a b : ℕ) → given (divide a b) ≡ true

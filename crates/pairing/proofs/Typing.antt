@@ -3,7 +3,7 @@ use Prim.Native.Nat.{ℕ, _<_}
 use mathlib.Core.Path.{_≡_, refl, subst}
 use mathlib.Core.Bool.{Bool, true, false, not, cond, _&&_}
 use mathlib.Core.Option.{Option, none, some}
-use lib.Dec.{T, ltb, eqb, lt→ltb}
+use lib.Dec.{T, ltb, eqb, eqb→eq, lt→ltb}
 use Rattle.arith.specs.declared.One.the-variants.{Not, Id}
 use Rattle.arith.specs.declared.Two.{Two}
 use Rattle.arith.specs.declared.Two.the-variants.{Add, Sub, Mul, Div, Eq, Lt, Gt, Le, Ge, And, Or, PtrAdd}
@@ -43,6 +43,13 @@ with-both-yields P (some a) none f h = tt
 with-both-yields P (some a) (some b) f h = h a b refl refl
 
 -- ---- values of a type
+pub type-is : (d : ℕ) (v : Val) → HasType d v → typeOf v ≡ d
+type-is d v h = eqb→eq (typeOf v) d (left (eqb (typeOf v) d) (inRange v) h)
+  where
+    left : (a b : Bool) → T (a && b) → T a
+    left true b h = tt
+    left false b h = h
+
 int-typed : (w : ℕ) → w < W → HasType tint (int w)
 unfolding typeOf inRange
 int-typed w h = lt→ltb w W h

@@ -2,17 +2,17 @@
 -- and which of them are saves.
 use Prim.Native.Nat.{ℕ, _<_}
 use mathlib.Core.Path.{_≡_, refl, ap, subst}
-use mathlib.Core.Bool.{Bool, true, false, cond, _&&_, and-false}
+use mathlib.Core.Bool.{Bool, true, false, cond, and-false}
 use mathlib.Core.List.{List, [], _∷_, map}
 use mathlib.Core.Option.{Option, none, some}
 use lib.ListN.{getD}
-use lib.Dec.{T, leb, eqb, eqb→eq}
+use lib.Dec.{leb, eqb}
 use borrow.Author.Tests.{lt-leb}
 use Rattle.arith.specs.declared.One.{One}
 use Rattle.arith.specs.declared.One.the-variants.{Not, Id}
 use Rattle.arith.specs.declared.Two.{Two}
 use Rattle.arith.specs.declared.Two.the-variants.{Add, Sub, Mul, Div, Eq, Lt, Gt, Le, Ge, And, Or, PtrAdd}
-use Rattle.arith.specs.Value.{tfloat, Val, int, float, literal, char, bool, pointer, typeOf, inRange, HasType}
+use Rattle.arith.specs.Value.{tfloat, Val, int, float, literal, char, bool, pointer, typeOf}
 use Rattle.arith.specs.Operation.{Expr, constant, one, two}
 use Rattle.arith.specs.Code.{code1, code2, with-code, one-of, two-of}
 use Rattle.record.specs.declared.NameIx.{NameIx}
@@ -23,6 +23,7 @@ use Rattle.numbering.specs.declared.ValNum.{ValNum}
 use Rattle.numbering.specs.State.{State, home-of}
 use Rattle.numbering.specs.Number.{reads, numbered, literal-for, make-const-instr, make-val-instr, rewrite-instr, val-to-instr, is-save}
 use Rattle.pairing.specs.Joint.{SameDest}
+use Rattle.pairing.proofs.Typing.{type-is}
 use Rattle.pairing.proofs.SimplifyTypes.{Constant, TypedBy}
 
 -- ---- saves
@@ -110,13 +111,6 @@ two-form t i Ge x y = refl
 two-form t i And x y = refl
 two-form t i Or x y = refl
 two-form t i PtrAdd x y = refl
-
-type-is : (d : ℕ) (v : Val) → HasType d v → typeOf v ≡ d
-type-is d v h = eqb→eq (typeOf v) d (left (eqb (typeOf v) d) (inRange v) h)
-  where
-    left : (a b : Bool) → T (a && b) → T a
-    left true b h = tt
-    left false b h = h
 
 -- the literal that is written for a constant means it in a name of its type
 literal-value : (d : ℕ) (v : Val) → Constant d v → value-of d (literal-for v .kind) (literal-for v .bits) ≡ v
