@@ -2,7 +2,7 @@
 cases replays: a line holds a record, 0, its saves and its rewriting, or a
 record and the number and offset of its refusal.
 
-Usage: cases.py > crates/cases/stdin
+Usage: cases.py > crates/replay_rewrite/stdin
 """
 
 from pathlib import Path

@@ -6,7 +6,7 @@ which refusal follows and where: it is written down here beside the damage and
 is not the answer of any check. L is made right again after each damage but
 those of L itself.
 
-    python3 tools/vectors/damaged.py > crates/damaged/stdin
+    python3 tools/vectors/damaged.py > crates/replay_check/stdin
 
 Each line: the record in hex, the refusal's number and offset; 0 0 if accepted.
 """

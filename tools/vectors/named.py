@@ -5,7 +5,7 @@ What is expected of a line is written beside the way it is made, from document
 01. `name_text` is a second reading of document 01's sentences; it is only asked
 whether it agrees.
 
-    python3 tools/vectors/named.py > crates/named/stdin
+    python3 tools/vectors/named.py > crates/replay_name_text/stdin
 
 Each line: the input and the rewriting in hex, the index; the number and offset
 of the refusal, 0 0 for a text; 0 for a part of the input or 1 for one of the

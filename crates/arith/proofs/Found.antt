@@ -4,16 +4,16 @@ use mathlib.Core.Path.{_≡_, refl}
 use mathlib.Core.Bool.{Bool, true, false, cond}
 use mathlib.Core.Option.{some}
 use mathlib.Core.List.{List, [], _∷_}
-use native.Mathlib.Omega.{arith}
 use lib.Dec.{eqb}
 use borrow.Author.Tests.{eqb-true}
+use Rattle.arith.proofs.Clash.{clash}
 use Rattle.arith.specs.declared.One.{One}
 use Rattle.arith.specs.declared.Two.{Two}
 use Rattle.arith.specs.Code.{code1, code2, ones, twos, with-code, one-of, two-of}
 
 found-code : {A : Type 0} (code : A → ℕ) (c : ℕ) (os : List A) (o : A) → with-code code c os ≡ some o → code o ≡ c
 unfolding with-code
-found-code code c [] o e = let z : _≡_ {A = ℕ} 0 1 = cc in absurd (omega arith)
+found-code code c [] o e = clash (cc)
 found-code {A} code c (p ∷ os) o e = go (eqb (code p) c) refl (found-code code c os o) e
   where
     go :

@@ -1,3 +1,4 @@
+pub mod Clash
 pub mod Map
 pub mod Found
 pub mod Words

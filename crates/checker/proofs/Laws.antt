@@ -6,6 +6,7 @@ use mathlib.Core.Bool.{Bool, true, false, not}
 use native.Mathlib.Omega.{arith}
 use lib.ListN.{length, getD, drop, replicate, length-map, length-replicate}
 use lib.Seq.{sets, sets-eq, getD-drop}
+use Rattle.arith.proofs.Clash.{clash}
 use Rattle.record.specs.declared.NameIx.{NameIx}
 use Rattle.record.specs.declared.Refusal.{Refusal}
 use Rattle.record.specs.declared.Refusal.the-variants.{Types}
@@ -21,7 +22,7 @@ use Rattle.record.specs.Decode.{items, behind, name-from, name-end, names-count
 use Rattle.record.proofs.Tests.{names-limit}
 use Rattle.record.proofs.Accepted.{read-ok}
 use Rattle.record.proofs.Decode.{length-items, read-decodes}
-use Rattle.typing.specs.Passes.{types-from, blocks-verdict}
+use Rattle.check_types.specs.Passes.{types-from, blocks-verdict}
 use Rattle.checker.specs.Pass.{typed-verdict, as-checked}
 
 -- ---- the table
@@ -117,7 +118,7 @@ checked-refused s k o h = go (read limits s 0) h
     go :
         (v : Res (Record Placed)) → verdict v ≡ next.Refused k o →
         Refused k o ≡ checked-as (then v (λ r p. block-types (type-in (function (plain r) .types)) (r .blocks) (got r p)))
-    go (got r p) h = let z : _≡_ {A = ℕ} 0 1 = cc in absurd (omega arith)
+    go (got r p) h = clash (cc)
     go (fault a p) h = cc
 
 -- otherwise the second pass answers; v: its verdict
@@ -138,4 +139,4 @@ checked-typed s p v h e = go (read limits s 0) refl h
         ap as-checked (e n)
         ∙ sym (same-blocks t (record-from s .blocks) (got r q) (got tt (blocks-end s)) refl)
         ∙ sym (ap (λ (x : Record Placed). checked-as (block-types (type-in (function (plain x) .types)) (x .blocks) (got r q))) (d .0))
-    go (fault a o) k h = let z : _≡_ {A = ℕ} 0 1 = cc in absurd (omega arith)
+    go (fault a o) k h = clash (cc)

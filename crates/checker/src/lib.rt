@@ -21,7 +21,7 @@ pub fn read(input: &[u8]) -> Next
         body: 256,
         made: false,
     };
-    head::read_record(input, limits)
+    check_record::read_record(input, limits)
 }
 
 // The second pass: the table of the names' types, then the blocks. The table holds the types of 256 names, as many as a record may have.
@@ -29,11 +29,11 @@ pub fn typed(s: &[u8]) -> Next
     ensures { λ r. ⌜ (names-count (now (s .entry)) ≤ 256 → r ≡ typed-verdict (now (s .entry))) ⌝ }
 {
     let mut types = [0u8; 256];
-    let w = head::id_bytes(fields::byte_or(s, 4));
-    let n = fields::be16(s, 6);
-    let at = typing::fill_types(s, &mut types, n, 8);
-    let b = fields::be16(s, at);
-    typing::typed_blocks(s, &types, w, b, at + 2)
+    let w = check_record::id_bytes(read_fields::byte_or(s, 4));
+    let n = read_fields::be16(s, 6);
+    let at = check_types::fill_types(s, &mut types, n, 8);
+    let b = read_fields::be16(s, at);
+    check_types::typed_blocks(s, &types, w, b, at + 2)
 }
 
 // The answer, with the place behind the record forgotten.

@@ -8,6 +8,7 @@ use lib.Ieee.{Float, nan, inf, fin, binary64, toBits, isNan, ne}
 use lib.Ieee.Compare.{differs-from-itself, nan-differs}
 use mir.Val.{boolByte}
 use borrow.Author.Tests.{eqb-true, eqb-false, ltb-true, leb-true}
+use Rattle.arith.proofs.Clash.{clash}
 use Rattle.record.specs.declared.Test.the-variants.{Passes}
 use Rattle.record.specs.Record.{Lit}
 use Rattle.record.specs.Tests.{literal-test}
@@ -48,6 +49,6 @@ nan-bits x h = sym (ap (toBits binary64) (differs-from-itself x (rw h tt)))
 
 pub no-nan : (x : Float) → ne x x ≡ false → T (not (isNan x))
 unfolding isNan
-no-nan nan h = absurd (let q : _≡_ {A = Bool} true false = sym nan-differs ∙ h in let z : _≡_ {A = ℕ} 0 1 = cc in omega arith)
+no-nan nan h = absurd (let q : _≡_ {A = Bool} true false = sym nan-differs ∙ h in clash (cc))
 no-nan (inf s) h = tt
 no-nan (fin s m e) h = tt

@@ -11,9 +11,9 @@ use Rattle.numbering.specs.declared.Rewritten.{Rewritten}
 use Rattle.numbering.specs.declared.Rewritten.the-variants as rewritten
 use Rattle.numbering.specs.Rewrite.{rewrite-answer}
 use Rattle.numbering.specs.NameText.{NameText, name-answer}
-use Rattle.emit.specs.Put.{put}
-use Rattle.naming.specs.declared.Found.{Found}
-use Rattle.naming.specs.Found.{found, within}
+use Rattle.write_bytes.specs.Put.{put}
+use Rattle.name_text.specs.declared.Found.{Found}
+use Rattle.name_text.specs.Found.{found, within}
 use Rattle.exports.specs.Values.{value, values, place-values, lies-within}
 
 -- ---- check

@@ -8,7 +8,7 @@ ghost use mathlib.Core.Bool.{cond};
 ghost use Rattle.record.specs.Answer.{check-answer, checked};
 ghost use Rattle.numbering.specs.Rewrite.{rewrite-answer, rewrite, rewrite-leaves};
 ghost use Rattle.numbering.specs.NameText.{name-answer, name-text};
-ghost use Rattle.emit.specs.Put.{put};
+ghost use Rattle.write_bytes.specs.Put.{put};
 ghost use Rattle.exports.specs.Values.{value, values, place-values, lies-within};
 
 // Whether the bytes are a record of a function. offset: that of the fault; 0 if there is none.
@@ -101,7 +101,7 @@ pub extern "C" fn lvn_name_text(
         ((now (answer .exit) ≡ put (now (answer .entry)) 0 (place-values (name-text (now (input .entry)) (now (rewriting .entry)) index))) ×
         lies-within (name-text (now (input .entry)) (now (rewriting .entry)) index) (now (input .entry)) (now (rewriting .entry))) ⌝ }
 {
-    let f = naming::part_of(input, rewriting, index);
+    let f = name_text::part_of(input, rewriting, index);
     let named = f.answer;
     answer[0] = named_offset(named);
     answer[1] = one_if(f.rewriting);

@@ -8,6 +8,7 @@ use native.Mathlib.Omega.{arith}
 use lib.ListN.{length, getD}
 use lib.Dec.{eqb}
 use borrow.Author.Tests.{not-true}
+use Rattle.arith.proofs.Clash.{clash}
 use Rattle.arith.specs.Code.{code1, code2, with-code, one-of, two-of}
 use Rattle.record.specs.declared.NameIx.{NameIx}
 use Rattle.record.specs.declared.Shape.{Shape}
@@ -25,7 +26,7 @@ use Rattle.numbering.proofs.Saves.{Dests, Original, Originals}
 -- ---- parts that are there
 pub there-true : {A : Type 0} (P : A → Type 0) (d x : A) (b : Bool) → b ≡ true → There b P d x → P x
 there-true P d x true e h = h
-there-true P d x false e h = absurd (let z : _≡_ {A = ℕ} 0 1 = cc in omega arith)
+there-true P d x false e h = clash (cc)
 
 pub dest-below : (N B left : ℕ) (i : Instr) → InstrOk N B left i → shape-of (i .code) .dest ≡ true → i .dest .0 < N
 dest-below N B left i h e = below-lt N (i .dest .0) (there-true (IndexOk N) (nm 0) (i .dest) (shape-of (i .code) .dest) e (h .rest .dest))

@@ -8,6 +8,7 @@ use mathlib.Core.Option.{Option, none, some, Option·getD}
 use native.Mathlib.Omega.{arith}
 use lib.Dec.{ltb}
 use borrow.Author.Tests.{ltb-true, ltb-false, lt-ltb}
+use Rattle.arith.proofs.Clash.{clash}
 use Rattle.arith.specs.declared.One.the-variants.{Not, Id}
 use Rattle.arith.specs.Map.{pick}
 use Rattle.arith.specs.Value.{Val}
@@ -30,7 +31,7 @@ pub record Homed (P : Val → Type 0) (N : ℕ) (s : State) : Type 0 where
 -- ---- the start
 start-number : (b : Bool) (w v : ValNum) → cond b (some w) none ≡ some v → (b ≡ true) × (w ≡ v)
 start-number true w v e = (refl, cc)
-start-number false w v e = absurd (let z : _≡_ {A = ℕ} 0 1 = cc in omega arith)
+start-number false w v e = clash (cc)
 
 pub start-homed : (P : Val → Type 0) (N A k : ℕ) → A ≤ N → Homed P N (start A k)
 unfolding start

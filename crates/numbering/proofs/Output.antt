@@ -7,6 +7,7 @@ use native.Mathlib.Omega.{arith}
 use lib.ListN.{length}
 use lib.Dec.{ltb}
 use borrow.Author.Tests.{ltb-true}
+use Rattle.arith.proofs.Clash.{clash}
 use Rattle.record.specs.Record.{Bytes, Instr, Placed, Record, plain, limits, wide}
 use Rattle.record.specs.Reader.{Res, got, fault}
 use Rattle.record.specs.Read.{read}
@@ -70,7 +71,7 @@ module _ (s : List ℕ) (b : Bytes s) (r : Record Placed) (p : ℕ) (e : accept 
 -- "Its output buffer is 65,536 bytes, which suffices.": no input that the program reads is refused for want of room
 room-left : (room n k m : ℕ) (b : Bool) → ltb room n ≡ b → n ≤ room → cond b (Room n) (Written n k) ≡ Room m → ⊥
 room-left room n k m true q l e = let h : room < n = ltb-true room n q in omega arith
-room-left room n k m false q l e = let z : _≡_ {A = ℕ} 0 1 = cc in omega arith
+room-left room n k m false q l e = clash (cc)
 
 pub buffer-suffices :
     (s out : List ℕ) → Bytes s → length s ≤ most-input → buffer-size ≤ length out → (m : ℕ) → rewrite s out ≡ Room m → ⊥
@@ -78,7 +79,7 @@ unfolding rewrite rewrite-result
 buffer-suffices s out b l o m e = go (accept limits s) refl e
   where
     go : (v : Res (Record Placed)) → accept limits s ≡ v → rewrite-result (length out) v ≡ Room m → ⊥
-    go (fault k x) q f = let z : _≡_ {A = ℕ} 0 1 = cc in omega arith
+    go (fault k x) q f = clash (cc)
     go (got r p) q f =
         let h : length (rewritten-bytes r) ≤ 7 * length s = accepted-size s b r p q in
         let n = length (rewritten-bytes r) in

@@ -7,6 +7,7 @@ use native.Mathlib.Omega.{arith}
 use lib.ListN.{length, length-append, length-map}
 use lib.Dec.{eqb}
 use borrow.Author.Tests.{eqb-true, eq-eqb}
+use Rattle.arith.proofs.Clash.{clash}
 use Rattle.arith.specs.declared.One.the-variants.{Id}
 use Rattle.arith.specs.Value.{Val, int, float, literal, char, bool, pointer}
 use Rattle.arith.specs.Operation.{constant, one, two}
@@ -57,11 +58,11 @@ literals-closed =
 numbered-passes : (v : Val) → numbered v ≡ true → LiteralOk v
 unfolding numbered
 numbered-passes (int w) e = int-passes w
-numbered-passes (float b) e = absurd (let z : _≡_ {A = ℕ} 0 1 = cc in omega arith)
+numbered-passes (float b) e = clash (cc)
 numbered-passes (literal w) e = literal-passes w
-numbered-passes (char c) e = absurd (let z : _≡_ {A = ℕ} 0 1 = cc in omega arith)
+numbered-passes (char c) e = clash (cc)
 numbered-passes (bool b) e = bool-passes b
-numbered-passes (pointer t b o) e = absurd (let z : _≡_ {A = ℕ} 0 1 = cc in omega arith)
+numbered-passes (pointer t b o) e = clash (cc)
 
 const-literal : (f : Form) → ConstOk LiteralOk f
 const-literal (pure (constant v)) = numbered-passes v
@@ -83,7 +84,7 @@ later-test :
 later-test true l true b′ e f = rw (f refl)
 later-test true l false true e f = refl
 later-test true l false false e f = e
-later-test false l b b′ e f = absurd (let z : _≡_ {A = ℕ} 0 1 = cc in omega arith)
+later-test false l b b′ e f = clash (cc)
 
 -- a code stays in its place where the last place stays the last
 later-code : (c left left′ : ℕ) → code-test (eqb left 0) c ≡ Passes → (left ≡ 0 → left′ ≡ 0) → code-test (eqb left′ 0) c ≡ Passes

@@ -8,6 +8,7 @@ use native.Mathlib.Omega.{arith}
 use lib.ListN.{length, getD, length-map}
 use lib.Dec.{leb, eqb}
 use borrow.Author.Tests.{leb-true}
+use Rattle.arith.proofs.Clash.{clash}
 use Rattle.arith.specs.declared.One.the-variants.{Id}
 use Rattle.arith.specs.Code.{code1, code2}
 use Rattle.record.specs.declared.NameIx.{NameIx}
@@ -66,7 +67,7 @@ ample-size true false false few n m e h f =
     let a : 1 ≤ few = leb-true 1 few e in
     let b : few ≤ n = f refl in
     omega arith
-ample-size false l c few n m e h f = absurd (let z : _≡_ {A = ℕ} 0 1 = cc in omega arith)
+ample-size false l c few n m e h f = clash (cc)
 
 dest-size : (N B left : ℕ) (i : Instr) → InstrOk N B left i → shape-of (i .code) .dest ≡ true → 10 ≤ length (instr-bytes 4 i)
 dest-size N B left i p d =

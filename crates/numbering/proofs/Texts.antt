@@ -9,6 +9,7 @@ use lib.ListN.{length, getD, drop, length-append}
 use lib.Seq.{getD-append-add, drop-append-add}
 use lib.Dec.{ltb, leb, eqb}
 use borrow.Author.Tests.{eq-eqb, lt-ltb, le-leb}
+use Rattle.arith.proofs.Clash.{clash}
 use Rattle.record.specs.Text.{digit, letter, all-text, well-formed, undigited, ends-lvn, reserved, same-bytes, among}
 use Rattle.record.specs.Good.{Each}
 use Rattle.record.proofs.Tests.{and-left, and-right, and-both, same-bytes-eq}
@@ -37,12 +38,12 @@ all-text-cons b t p q = rw (p, q)
 
 pub well-formed-text : (t : List ℕ) → well-formed t ≡ true → all-text t ≡ true
 unfolding well-formed
-well-formed-text [] h = absurd (let z : _≡_ {A = ℕ} 0 1 = cc in omega arith)
+well-formed-text [] h = clash (cc)
 well-formed-text (b ∷ t) h = all-text-cons b t (and-left (letter b) _ h) (and-right (letter b) _ h)
 
 pub well-formed-some : (t : List ℕ) → well-formed t ≡ true → 0 < length t
 unfolding well-formed
-well-formed-some [] h = absurd (let z : _≡_ {A = ℕ} 0 1 = cc in omega arith)
+well-formed-some [] h = clash (cc)
 well-formed-some (b ∷ t) h = omega arith
 
 -- ---- the closing digits
@@ -151,8 +152,7 @@ made-injective t u j k e =
 pub made-unlike : (t u : List ℕ) (k : ℕ) → well-formed t ≡ true → reserved u ≡ false → made-text t k ≡ u → ⊥
 made-unlike t u k h r e =
     let p : reserved u ≡ true = ap reserved (sym e) ∙ made-reserved t k h in
-    let z : _≡_ {A = ℕ} 0 1 = cc in
-    omega arith
+    clash (cc)
 
 -- ---- equality of texts
 pub same-bytes-refl : (s : List ℕ) → same-bytes s s ≡ true

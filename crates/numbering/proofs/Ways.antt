@@ -7,6 +7,7 @@ use native.Mathlib.Omega.{arith}
 use lib.ListN.{length, drop, length-append, length-drop}
 use lib.Dec.{ltb}
 use borrow.Author.Tests.{ltb-true, ltb-false, lt-ltb, le-ltb}
+use Rattle.arith.proofs.Clash.{clash}
 use Rattle.record.specs.declared.Refusal.{Refusal}
 use Rattle.record.specs.declared.Checked.the-variants as check
 use Rattle.record.specs.Record.{Placed, Record, plain, function, limits}
@@ -35,7 +36,7 @@ only-one (third a b c) = (λ p. a (p .0), (λ p. a (p .0), λ p. b (p .0)))
 
 -- check's answer, back to what was read
 refused-as : (v : Res (Record Placed)) (k : Refusal) (o : ℕ) → checked-as v ≡ check.Refused k o → v ≡ fault k o
-refused-as (got r p) k o e = let z : _≡_ {A = ℕ} 0 1 = cc in absurd (omega arith)
+refused-as (got r p) k o e = clash (cc)
 refused-as (fault f q) k o e = cc
 
 faulty-read : (s : List ℕ) (w : Faulty s) → accept limits s ≡ fault (w .reason) (w .offset)
@@ -43,7 +44,7 @@ unfolding checked
 faulty-read s w = refused-as (accept limits s) (w .reason) (w .offset) (w .refused)
 
 not-both : (v : Res (Record Placed)) (k : Refusal) (o : ℕ) (r : Record Placed) (p : ℕ) → v ≡ fault k o → v ≡ got r p → ⊥
-not-both v k o r p e f = let z : _≡_ {A = ℕ} 0 1 = cc in omega arith
+not-both v k o r p e f = clash (cc)
 
 -- a reader gives one value
 pub same-value : {A : Type 0} (v : Res A) (x y : A) (p q : ℕ) → v ≡ got x p → v ≡ got y q → x ≡ y

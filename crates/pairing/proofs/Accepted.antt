@@ -9,6 +9,7 @@ use lib.ListN.{length, length-map}
 use lib.Dec.{T, eqb}
 use lib.Ieee.Bits.{is-true}
 use borrow.Author.Tests.{eqb-true}
+use Rattle.arith.proofs.Clash.{clash}
 use Rattle.arith.specs.Value.{tbool}
 use Rattle.arith.specs.Operation.{Expr, constant, one, two}
 use Rattle.arith.specs.Code.{code1, code2, with-code, one-of, two-of}
@@ -91,7 +92,7 @@ module _ {N B left : ℕ} (t : NameIx → ℕ) (i : Instr) (ok : InstrOk N B lef
     where
       go : (b : Bool) → b ≡ true → There b (IndexOk N) (nm 0) (i .dest) → i .dest .0 < N
       go true e k = below-lt N (i .dest .0) k
-      go false e k = let z : _≡_ {A = ℕ} 0 1 = cc in absurd (omega arith)
+      go false e k = clash (cc)
 
   args-below : All (λ x. x .0 < N) (i .args)
   args-below = go (shape-of (i .code)) (not (shape-of (i .code) .literal)) (i .args) (ok .rest .args)
@@ -121,25 +122,25 @@ module _ {N B left : ℕ} (t : NameIx → ℕ) (i : Instr) (ok : InstrOk N B lef
     form-typed (of-two o c) e p =
         let j : two o (arg i 0) (arg i 1) ≡ e = cc in
         subst (λ (e : Expr NameIx). Typed t e (t (i .dest))) j (two-typed t i o c rule)
-    form-typed of-new e p = let z : _≡_ {A = ℕ} 0 1 = cc in absurd (omega arith)
-    form-typed (of-jump c) e p = let z : _≡_ {A = ℕ} 0 1 = cc in absurd (omega arith)
-    form-typed (of-branch c) e p = let z : _≡_ {A = ℕ} 0 1 = cc in absurd (omega arith)
-    form-typed (of-return c) e p = let z : _≡_ {A = ℕ} 0 1 = cc in absurd (omega arith)
-    form-typed (of-nop c) e p = let z : _≡_ {A = ℕ} 0 1 = cc in absurd (omega arith)
-    form-typed of-effect e p = let z : _≡_ {A = ℕ} 0 1 = cc in absurd (omega arith)
+    form-typed of-new e p = clash (cc)
+    form-typed (of-jump c) e p = clash (cc)
+    form-typed (of-branch c) e p = clash (cc)
+    form-typed (of-return c) e p = clash (cc)
+    form-typed (of-nop c) e p = clash (cc)
+    form-typed of-effect e p = clash (cc)
 
     form-tested : {f : Form} → FormOf t i f → (x : NameIx) (b c : ℕ) → f ≡ branch x b c → t x ≡ tbool
-    form-tested (of-constant e) x b c p = let z : _≡_ {A = ℕ} 0 1 = cc in absurd (omega arith)
-    form-tested (of-one o e) x b c p = let z : _≡_ {A = ℕ} 0 1 = cc in absurd (omega arith)
-    form-tested (of-two o e) x b c p = let z : _≡_ {A = ℕ} 0 1 = cc in absurd (omega arith)
-    form-tested of-new x b c p = let z : _≡_ {A = ℕ} 0 1 = cc in absurd (omega arith)
-    form-tested (of-jump e) x b c p = let z : _≡_ {A = ℕ} 0 1 = cc in absurd (omega arith)
+    form-tested (of-constant e) x b c p = clash (cc)
+    form-tested (of-one o e) x b c p = clash (cc)
+    form-tested (of-two o e) x b c p = clash (cc)
+    form-tested of-new x b c p = clash (cc)
+    form-tested (of-jump e) x b c p = clash (cc)
     form-tested (of-branch e) x b c p =
         let j : arg i 0 ≡ x = cc in
         ap t (sym j) ∙ branch-rule t i e rule
-    form-tested (of-return e) x b c p = let z : _≡_ {A = ℕ} 0 1 = cc in absurd (omega arith)
-    form-tested (of-nop e) x b c p = let z : _≡_ {A = ℕ} 0 1 = cc in absurd (omega arith)
-    form-tested of-effect x b c p = let z : _≡_ {A = ℕ} 0 1 = cc in absurd (omega arith)
+    form-tested (of-return e) x b c p = clash (cc)
+    form-tested (of-nop e) x b c p = clash (cc)
+    form-tested of-effect x b c p = clash (cc)
 
     pub instr-fit : FitInstr N t i
     instr-fit =

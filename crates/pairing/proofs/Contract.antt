@@ -5,6 +5,7 @@ use mathlib.Core.List.{List, _++_}
 use native.Mathlib.Omega.{arith}
 use lib.ListN.{length, take, drop, length-take, take-append-drop}
 use lib.Seq.{take-append-seam, drop-append-seam}
+use Rattle.arith.proofs.Clash.{clash}
 use Rattle.record.specs.Record.{Bytes, Placed, Record, plain, function, limits, wide}
 use Rattle.record.specs.Reader.{got}
 use Rattle.record.specs.Read.{read}
@@ -29,12 +30,10 @@ wrote {s} {out} {answer = answer} d n k e = go (d .one-way)
     go : ExactlyOne (Faulty s) (TooShort s (length out)) (HasRoom s (length out)) → HasRoom s (length out)
     go (first w b c) =
         let r : answer ≡ Refused (w .reason) (w .offset) = d .faulty w .0 in
-        let z : _≡_ {A = ℕ} 0 1 = cc in
-        absurd (omega arith)
+        clash (cc)
     go (second a w c) =
         let r : answer ≡ Room (length (rewritten-bytes (w .it))) = d .too-short w .0 in
-        let z : _≡_ {A = ℕ} 0 1 = cc in
-        absurd (omega arith)
+        clash (cc)
     go (third a b w) = w
 
 same-bytes-written : (a : Rewritten) (n k m j : ℕ) → a ≡ Written n k → a ≡ Written m j → n ≡ m

@@ -10,6 +10,7 @@ use native.Mathlib.Nat.{add-zero}
 use native.Mathlib.Omega.{arith}
 use lib.Dec.{T}
 use lib.ListN.{length}
+use Rattle.arith.proofs.Clash.{clash}
 use Rattle.arith.specs.Value.{HasType}
 use Rattle.record.specs.declared.NameIx.{NameIx}
 use Rattle.record.specs.Record.{nm, Instr, Block, Function, names-of, type-in, arg}
@@ -68,7 +69,7 @@ emitted-bound N i is d n no-saves u h l = rw h (omega arith)
 emitted-bound N {id = id} {x = x} {k = k} i is true n (one-save b) u h l = rw (h, save-is-save N id x k) (omega arith)
 emitted-bound N {id = id} {x = x} {k = k} i is false n (one-save b) u h l =
     let e = u refl in
-    absurd (let z : _≡_ {A = ℕ} 0 1 = cc in omega arith)
+    clash (cc)
 
 block-bound :
     (N : ℕ) (t : NameIx → ℕ) (is : List Instr) (s : State) →

@@ -8,6 +8,7 @@ use native.Mathlib.Omega.{arith}
 use lib.ListN.{getD}
 use lib.Dec.{T, ltb, ltb→lt}
 use lib.Ieee.Bits.{is-true}
+use Rattle.arith.proofs.Clash.{clash}
 use Rattle.arith.specs.Map.{pick}
 use Rattle.arith.specs.Value.{Val, Val-discrete, HasType}
 use Rattle.record.specs.Record.{Bytes, Placed, Record, Function, function, plain, limits, names-of, type-in}
@@ -33,12 +34,12 @@ bytes-are [] t = tt
 bytes-are (b ∷ s) t = let (x, y) = both (ltb b 256) (are-bytes s) t in (ltb→lt b 256 x, bytes-are s y)
 
 fits-value : (t : ℕ) (o : Option Val) → T (value-fits t o) → (v : Val) → o ≡ some v → HasType t v
-fits-value t none p v e = absurd (let z : _≡_ {A = ℕ} 0 1 = cc in omega arith)
+fits-value t none p v e = clash (cc)
 fits-value t (some u) p v e = subst (λ w. HasType t w) (let z : u ≡ v = cc in z) p
 
 typed-at : (ts : List ℕ) (vs : List (Option Val)) → T (typed ts vs) → (n : ℕ) (v : Val) → getD vs n none ≡ some v → HasType (getD ts n 0) v
 unfolding typed
-typed-at ts [] p n v e = absurd (let z : _≡_ {A = ℕ} 0 1 = cc in omega arith)
+typed-at ts [] p n v e = clash (cc)
 typed-at [] (o ∷ vs) p n v e = absurd p
 typed-at (t ∷ ts) (o ∷ vs) p zero v e = fits-value t o (both (value-fits t o) (typed ts vs) p .0) v e
 typed-at (t ∷ ts) (o ∷ vs) p (suc n) v e = typed-at ts vs (both (value-fits t o) (typed ts vs) p .1) n v e

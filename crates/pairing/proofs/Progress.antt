@@ -8,6 +8,7 @@ use mathlib.Core.List.{List, [], _∷_, _++_}
 use mathlib.Core.Option.{Option, none, some, Option·none-ne-some}
 use native.Mathlib.Nat.{add-zero}
 use native.Mathlib.Omega.{arith}
+use Rattle.arith.proofs.Clash.{clash}
 use Rattle.record.specs.declared.NameIx.{NameIx}
 use Rattle.record.specs.Record.{Instr, Block, Function, names-of, type-in}
 use Rattle.machine.specs.Machine.{Store, Context, plain-machine, Answer, Stop, at-end, at-ret, at-halt, at-unset, at-division, Mach, Step, step, Out, falls, leaps, breaks, after, run-block, Place, before, stopped, Run, nth, arrived, arrive, passes, through, advance-from, advance, begin, iterate, run-with, run}
@@ -165,15 +166,15 @@ module _ (N : ℕ) (ctx : Context) (performed : (i : Instr) → Performed ctx i)
 -- ---- the test and what is shown
 quiet-stop : (s : Stop) → not-unset s ≡ true → stop s ≢ stop at-unset
 unfolding not-unset
-quiet-stop at-end h e = absurd (let z : _≡_ {A = ℕ} 0 1 = cc e in omega arith)
-quiet-stop at-ret h e = absurd (let z : _≡_ {A = ℕ} 0 1 = cc e in omega arith)
-quiet-stop at-halt h e = absurd (let z : _≡_ {A = ℕ} 0 1 = cc e in omega arith)
+quiet-stop at-end h e = clash (cc e)
+quiet-stop at-ret h e = clash (cc e)
+quiet-stop at-halt h e = clash (cc e)
 quiet-stop at-unset h e = absurd (true≢false (sym h))
-quiet-stop (at-division i c) h e = absurd (let z : _≡_ {A = ℕ} 0 1 = cc e in omega arith)
+quiet-stop (at-division i c) h e = clash (cc e)
 
 quiet-shown : (p : Place) → quiet p ≡ true → shown p ≢ stop at-unset
 unfolding shown quiet
-quiet-shown (before b) h e = absurd (let z : _≡_ {A = ℕ} 0 1 = cc e in omega arith)
+quiet-shown (before b) h e = clash (cc e)
 quiet-shown (stopped s b p) h e = quiet-stop s h e
 
 stop-quiet : (s : Stop) → stop s ≢ stop at-unset → not-unset s ≡ true

@@ -5,8 +5,8 @@ use mathlib.Core.Path.{_≡_, refl, sym, ap, _∙_, subst}
 use mathlib.Core.Bool.{Bool, true, false, cond}
 use mathlib.Core.List.{List, [], _∷_, _++_, map}
 use mathlib.Core.Option.{Option, none, some, Option·none-ne-some, Option·some-injective}
-use native.Mathlib.Omega.{arith}
 use lib.Dec.{T}
+use Rattle.arith.proofs.Clash.{clash}
 use Rattle.arith.specs.declared.One.the-variants.{Id}
 use Rattle.arith.specs.Map.{upd}
 use Rattle.arith.proofs.Map.{upd-same}
@@ -304,7 +304,7 @@ last-paired :
     Paired Γ j (i ∷ is) (k ∷ block-lvn (Γ .names) (Γ .ctx .types) s is .body)
 unfolding block-lvn
 last-paired Γ j i k [] s e h = h
-last-paired Γ j i k (i′ ∷ is) s e h = absurd (let z : _≡_ {A = ℕ} 0 1 = cc in omega arith)
+last-paired Γ j i k (i′ ∷ is) s e h = clash (cc)
 
 -- the rewriting of the instructions behind
 abbrev behind : Setting → List Instr → State → List Instr

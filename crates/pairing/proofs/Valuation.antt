@@ -5,7 +5,7 @@ use mathlib.Core.Path.{_≡_, refl, sym, ap, _∙_}
 use mathlib.Core.Logic.{_≢_}
 use mathlib.Core.List.{List, [], _∷_}
 use mathlib.Core.Option.{Option, none, some, Option·none-ne-some, Option·some-injective}
-use native.Mathlib.Omega.{arith}
+use Rattle.arith.proofs.Clash.{clash}
 use Rattle.arith.specs.declared.One.the-variants.{Id}
 use Rattle.arith.specs.Value.{Val, HasType}
 use Rattle.arith.specs.Operation.{Cause, Result, ok, stops, unset, with-one, with-both, apply1, apply2, Expr, constant, one, two, eval}
@@ -20,13 +20,13 @@ Valuation = ValNum → Option Val
 
 -- ---- results are told apart
 pub ok-not-unset : {r : Result} {v : Val} → r ≡ ok v → r ≢ unset
-ok-not-unset p q = let z : _≡_ {A = ℕ} 0 1 = cc in omega arith
+ok-not-unset p q = clash (cc)
 
 pub ok-not-stops : {r : Result} {v : Val} {c : Cause} → r ≡ ok v → r ≢ stops c
-ok-not-stops p q = let z : _≡_ {A = ℕ} 0 1 = cc in omega arith
+ok-not-stops p q = clash (cc)
 
 pub stops-not-unset : {r : Result} {c : Cause} → r ≡ stops c → r ≢ unset
-stops-not-unset p q = let z : _≡_ {A = ℕ} 0 1 = cc in omega arith
+stops-not-unset p q = clash (cc)
 
 -- ---- a larger valuation
 abbrev pub Grows : Valuation → Valuation → Type 0
@@ -131,13 +131,13 @@ pub number-copy :
     number env e ≡ some (one Id n) →
     (x : NameIx) × (env x ≡ some n)
 unfolding number
-number-copy env (constant c) n p = absurd (let z : _≡_ {A = ℕ} 0 1 = cc in omega arith)
+number-copy env (constant c) n p = clash (cc)
 number-copy env (one o a) n p =
     let (m, q, r) = map₁-some (one o) (env a) (one Id n) p in
     (a, q ∙ cc)
 number-copy env (two o a b) n p =
     let (m, k, q, s, r) = map₂-some (two o) (env a) (env b) (one Id n) p in
-    absurd (let z : _≡_ {A = ℕ} 0 1 = cc in omega arith)
+    clash (cc)
 
 -- ---- lists of names
 unfoldable pub values : Valuation → List ValNum → Option (List Val)

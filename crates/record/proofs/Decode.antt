@@ -8,6 +8,7 @@ use native.Mathlib.Omega.{arith}
 use native.Mathlib.Nat.{add-zero}
 use lib.ListN.{length, getD, take, drop}
 use lib.Dec.{ltb, eqb}
+use Rattle.arith.proofs.Clash.{clash}
 use Rattle.record.specs.declared.Shape.{Shape}
 use Rattle.record.specs.declared.Limits.{Limits}
 use Rattle.record.specs.declared.Refusal.the-variants.{Length}
@@ -56,9 +57,9 @@ field-decodes w test s at = record { told = λ y q e. go (ltb (length s - at) w)
     go :
         (b : Bool) (t : Test) (y q : ℕ) → refuse b Length at (judge t at (got (num-at s at w) (at + w))) ≡ got y q →
         (y ≡ num-at s at w) × (q ≡ at + w)
-    go true t y q e = let z : _≡_ {A = ℕ} 0 1 = cc in absurd (omega arith)
+    go true t y q e = clash (cc)
     go false Passes y q e = (cc, cc)
-    go false (Fails k) y q e = let z : _≡_ {A = ℕ} 0 1 = cc in absurd (omega arith)
+    go false (Fails k) y q e = clash (cc)
 
 text-decodes :
     (n : ℕ) (test : List ℕ → Test) (s : List ℕ) (at : ℕ) →
@@ -69,9 +70,9 @@ text-decodes n test s at = record { told = λ y q e. go (ltb (length s - at) n) 
     go :
         (b : Bool) (l : List ℕ) (t : Test) (y : List ℕ) (q : ℕ) → refuse b Length at (judge t at (got l (at + n))) ≡ got y q →
         (y ≡ l) × (q ≡ at + n)
-    go true l t y q e = let z : _≡_ {A = ℕ} 0 1 = cc in absurd (omega arith)
+    go true l t y q e = clash (cc)
     go false l Passes y q e = (cc, cc)
-    go false l (Fails k) y q e = let z : _≡_ {A = ℕ} 0 1 = cc in absurd (omega arith)
+    go false l (Fails k) y q e = clash (cc)
 
 give-decodes : {A : Type 0} {x : A} {s : List ℕ} {at : ℕ} → Decodes (give x) s at x at
 unfolding give
@@ -89,7 +90,7 @@ bind-decodes {A} {B} {r} f {s} {at} {x} {p} {y} {q} d e = record { told = λ z o
     go (got x′ p′) k z o h =
         let t : (x′ ≡ x) × (p′ ≡ p) = d .told x′ p′ k in
         e .told z o (sym (λ i. f (t .0 i) s (t .1 i)) ∙ h)
-    go (fault a b) k z o h = let n : _≡_ {A = ℕ} 0 1 = cc in absurd (omega arith)
+    go (fault a b) k z o h = clash (cc)
 
 here-decodes :
     {B : Type 0} (f : ℕ → Reader B) {s : List ℕ} {at : ℕ} {y : B} {q : ℕ} →
@@ -205,7 +206,7 @@ unfolding end
 end-decodes s at = record { told = λ y q e. go (ltb at (length s)) y q e }
   where
     go : (b : Bool) (y : Unit {0}) (q : ℕ) → refuse b Length at (got tt at) ≡ got y q → (y ≡ tt) × (q ≡ at)
-    go true y q e = let z : _≡_ {A = ℕ} 0 1 = cc in absurd (omega arith)
+    go true y q e = clash (cc)
     go false y q e = (refl, cc)
 
 -- a record that is read without a fault is the record of its bytes

@@ -8,6 +8,7 @@ use native.Mathlib.Omega.{arith}
 use lib.ListN.{length, drop}
 use lib.Dec.{ltb}
 use borrow.Author.Tests.{lt-ltb, le-ltb, lt-leb, le-leb, ltb-true}
+use Rattle.arith.proofs.Clash.{clash}
 use Rattle.record.specs.declared.Refusal.{Refusal}
 use Rattle.record.specs.declared.Refusal.the-variants.{Length}
 use Rattle.record.specs.declared.Test.{Test}
@@ -88,7 +89,7 @@ module _ {A B : Type 0} (r : Reader A) (f : A → Reader B) (s : List ℕ) (at :
   stopped k o e = go (r s at) e
     where
       go : (z : Res A) → verdict z ≡ Refused k o → Refused k o ≡ verdict (then z (λ x p. f x s p))
-      go (got x p) h = let clash : _≡_ {A = ℕ} 0 1 = cc in absurd (omega arith)
+      go (got x p) h = clash (cc)
       go (fault l q) h = sym h
 
   pub passed : (p : ℕ) (v : Next) → verdict (r s at) ≡ At p → ((x : A) → v ≡ verdict (f x s p)) → v ≡ verdict ((r >>= f) s at)
@@ -97,7 +98,7 @@ module _ {A B : Type 0} (r : Reader A) (f : A → Reader B) (s : List ℕ) (at :
     where
       go : (z : Res A) → verdict z ≡ At p → v ≡ verdict (then z (λ x p. f x s p))
       go (got x q) k = let j : q ≡ p = cc in h x ∙ ap (λ (n : ℕ). verdict (f x s n)) (sym j)
-      go (fault l q) k = let clash : _≡_ {A = ℕ} 0 1 = cc in absurd (omega arith)
+      go (fault l q) k = clash (cc)
 
 -- the place itself
 pub here-is : {B : Type 0} (f : ℕ → Reader B) (s : List ℕ) (at : ℕ) (v : Next) →
@@ -201,7 +202,7 @@ module _ {A : Type 0} (d : A) where
       ends-below n m rs ≡ true → drop n rs ≡ (e, x) ∷ rest → m ≤ c → c ≤ e → x ≡ row-of d rs c
   row-found zero m e c x rs rest b f g h =
       sym (ap (λ (t : List (ℕ × A)). row-of d t c) f ∙ ap (λ (t : Bool). cond t x (row-of d rest c)) (le-leb c e h))
-  row-found (suc n) m e c x [] rest b f g h = let clash : _≡_ {A = ℕ} 0 1 = cc in absurd (omega arith)
+  row-found (suc n) m e c x [] rest b f g h = clash (cc)
   row-found (suc n) m e c x (row ∷ rs) rest b f g h =
       row-found n m e c x rs rest (and-right (ltb (row .0) m) (ends-below n m rs) b) f g h
       ∙ row-over m c row rs (and-left (ltb (row .0) m) (ends-below n m rs) b) g

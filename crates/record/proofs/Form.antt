@@ -10,6 +10,7 @@ use native.Mathlib.Decide.{decLt, ℕ-discrete}
 use lib.ListN.{getD}
 use lib.Dec.{leb, eqb}
 use borrow.Author.Tests.{eqb-true, lt-leb, leb-true}
+use Rattle.arith.proofs.Clash.{clash}
 use Rattle.arith.specs.declared.One.{One}
 use Rattle.arith.specs.declared.One.the-variants.{Not, Id}
 use Rattle.arith.specs.declared.Two.{Two}
@@ -119,8 +120,7 @@ known-below c e = go (decLt c 72)
     go (no h) =
         let u : row-of unknown shapes c ≡ unknown = row-beyond unknown shapes 71 c refl (omega arith) in
         let f : row-of unknown shapes c .known ≡ false = ap (λ sh. sh .known) u in
-        let z : _≡_ {A = ℕ} 0 1 = cc in
-        absurd (omega arith)
+        clash (cc)
 
 -- a test that holds at each known code of the tables holds at every known code
 pub at-known : (p : ℕ → Bool) → all-below 72 (λ c. not (shape-of c .known) || p c) ≡ true → (c : ℕ) → shape-of c .known ≡ true → p c ≡ true

@@ -10,6 +10,7 @@ use lib.ListN.{length, getD, take, drop, length-drop, length-map}
 use lib.Seq.{length-take-le}
 use lib.Dec.{ltb}
 use borrow.Author.Tests.{ltb-false}
+use Rattle.arith.proofs.Clash.{clash}
 use Rattle.record.specs.declared.Refusal.the-variants.{Length}
 use Rattle.record.specs.declared.Test.{Test}
 use Rattle.record.specs.declared.Test.the-variants.{Passes, Fails}
@@ -60,9 +61,9 @@ module _ {s : List ℕ} where
       go :
           (n o at : ℕ) → (test n ≡ Passes → P n) → (b : Bool) (t : Test) → test n ≡ t →
           (x p : ℕ) → refuse b Length at (judge t at (got n o)) ≡ got x p → P x
-      go n o at told true t h x p e = let z : _≡_ {A = ℕ} 0 1 = cc in absurd (omega arith)
+      go n o at told true t h x p e = clash (cc)
       go n o at told false Passes h x p e = let j : n ≡ x = cc in subst P j (told h)
-      go n o at told false (Fails k) h x p e = let z : _≡_ {A = ℕ} 0 1 = cc in absurd (omega arith)
+      go n o at told false (Fails k) h x p e = clash (cc)
 
   pub field-gives : (w : ℕ) (test : ℕ → Test) → Gives s (field w test) (λ x. test x ≡ Passes)
   field-gives w test = field-told w test (λ x. test x ≡ Passes) (λ at h. h)
@@ -82,12 +83,12 @@ module _ {s : List ℕ} where
       go :
           (at : ℕ) (b : Bool) → ltb (length s - at) n ≡ b → (t : Test) → test (take n (drop at s)) ≡ t → (x : List ℕ) (p : ℕ) →
           refuse b Length at (judge t at (got (take n (drop at s)) (at + n))) ≡ got x p → P x
-      go at true l t h x p e = let z : _≡_ {A = ℕ} 0 1 = cc in absurd (omega arith)
+      go at true l t h x p e = clash (cc)
       go at false l Passes h x p e =
           let j : take n (drop at s) ≡ x = cc in
           let m : n ≤ length (drop at s) = omega (arith, ltb-false (length s - at) n l, length-drop at s) in
           subst P j (told at (length-take-le n (drop at s) m) h)
-      go at false l (Fails k) h x p e = let z : _≡_ {A = ℕ} 0 1 = cc in absurd (omega arith)
+      go at false l (Fails k) h x p e = clash (cc)
 
   pub text-gives : (n : ℕ) (test : List ℕ → Test) → Gives s (text n test) (λ t. (length t ≡ n) × (test t ≡ Passes))
   text-gives n test = text-told n test (λ t. (length t ≡ n) × (test t ≡ Passes)) (λ at l h. (l, h))
@@ -113,7 +114,7 @@ module _ {s : List ℕ} where
     where
       go : (at : ℕ) (v : Res A) → r s at ≡ v → (y : B) (p : ℕ) → then v (λ x p. f x s p) ≡ got y p → Q y
       go at (got x q) k y p h = e x (d .gives at x q k) .gives q y p h
-      go at (fault a b) k y p h = let n : _≡_ {A = ℕ} 0 1 = cc in absurd (omega arith)
+      go at (fault a b) k y p h = clash (cc)
 
   pub here-gives : {B : Type 0} (f : ℕ → Reader B) {Q : B → Type 0} → ((at : ℕ) → Gives s (f at) Q) → Gives s (here >>= f) Q
   unfolding _>>=_ here

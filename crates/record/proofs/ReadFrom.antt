@@ -8,6 +8,7 @@ use native.Mathlib.Omega.{arith}
 use lib.ListN.{length, drop, length-append, length-map, drop-of-length-le}
 use lib.Dec.{ltb, eqb}
 use borrow.Author.Tests.{ltb-false, eqb-true}
+use Rattle.arith.proofs.Clash.{clash}
 use Rattle.record.specs.declared.Shape.{Shape}
 use Rattle.record.specs.declared.Limits.{Limits}
 use Rattle.record.specs.declared.Refusal.the-variants.{Length}
@@ -123,7 +124,7 @@ unfolding end
 end-got s at u p e = go (ltb at (length s)) refl e
   where
     go : (b : Bool) → ltb at (length s) ≡ b → refuse b Length at (got tt at) ≡ got u p → (at ≡ p) × (length s ≤ p)
-    go true l e = let z : _≡_ {A = ℕ} 0 1 = cc in absurd (omega arith)
+    go true l e = clash (cc)
     go false l e =
         let q : at ≡ p = cc in
         (q, omega (arith, ltb-false at (length s) l))

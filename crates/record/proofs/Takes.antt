@@ -10,6 +10,7 @@ use lib.ListN.{length, getD, take, drop, take-append-drop, length-append, length
 use lib.Seq.{drop-cons, drop-drop, length-take-le}
 use lib.Dec.{ltb}
 use borrow.Author.Tests.{ltb-false}
+use Rattle.arith.proofs.Clash.{clash}
 use Rattle.record.specs.declared.Refusal.the-variants.{Length}
 use Rattle.record.specs.declared.Test.{Test}
 use Rattle.record.specs.declared.Test.the-variants.{Passes, Fails}
@@ -76,7 +77,7 @@ bind-got {A} {B} r f s at y p e = go (r s at) refl e
   where
     go : (v : Res A) → r s at ≡ v → then v (λ x p. f x s p) ≡ got y p → Bound r f s at y p
     go (got x q) k e = record { value = x; place = q; first = k; second = e }
-    go (fault a b) k e = let n : _≡_ {A = ℕ} 0 1 = cc in absurd (omega arith)
+    go (fault a b) k e = clash (cc)
 
 module _ {s : List ℕ} where
   -- ---- fields
@@ -89,7 +90,7 @@ module _ {s : List ℕ} where
           (at : ℕ) (b : Bool) → ltb (length s - at) w ≡ b → (t : Test) (x p : ℕ) →
           refuse b Length at (judge t at (got (num-at s at w) (at + w))) ≡ got x p →
           Between s at p (λ b. be w x ≡ b)
-      go at true l t x p e = let z : _≡_ {A = ℕ} 0 1 = cc in absurd (omega arith)
+      go at true l t x p e = clash (cc)
       go at false l Passes x p e =
           let j : num-at s at w ≡ x = cc in
           let q : at + w ≡ p = cc in
@@ -99,7 +100,7 @@ module _ {s : List ℕ} where
             ends = omega (arith, length-be w x);
             told = refl;
           }
-      go at false l (Fails k) x p e = let z : _≡_ {A = ℕ} 0 1 = cc in absurd (omega arith)
+      go at false l (Fails k) x p e = clash (cc)
 
   pub text-takes : (n : ℕ) (test : List ℕ → Test) → Takes s (text n test) (λ t b. (length t ≡ n) × (t ≡ b))
   unfolding text
@@ -110,7 +111,7 @@ module _ {s : List ℕ} where
           (at : ℕ) (b : Bool) → ltb (length s - at) n ≡ b → (t : Test) (x : List ℕ) (p : ℕ) →
           refuse b Length at (judge t at (got (take n (drop at s)) (at + n))) ≡ got x p →
           Between s at p (λ b. (length x ≡ n) × (x ≡ b))
-      go at true l t x p e = let z : _≡_ {A = ℕ} 0 1 = cc in absurd (omega arith)
+      go at true l t x p e = clash (cc)
       go at false l Passes x p e =
           let j : take n (drop at s) ≡ x = cc in
           let q : at + n ≡ p = cc in
@@ -122,7 +123,7 @@ module _ {s : List ℕ} where
             ends = omega arith;
             told = (k, refl);
           }
-      go at false l (Fails k) x p e = let z : _≡_ {A = ℕ} 0 1 = cc in absurd (omega arith)
+      go at false l (Fails k) x p e = clash (cc)
 
   -- ---- combinators
   pub give-takes : {A : Type 0} {x : A} (P : A → List ℕ → Type 0) → P x [] → Takes s (give x) P

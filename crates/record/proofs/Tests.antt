@@ -3,9 +3,9 @@ use Prim.Native.Nat.{ℕ, _<_, _≤_}
 use mathlib.Core.Path.{_≡_, refl, ap}
 use mathlib.Core.List.{List, [], _∷_}
 use mathlib.Core.Bool.{Bool, true, false, not, _&&_, _||_}
-use native.Mathlib.Omega.{arith}
 use lib.Dec.{ltb, leb, eqb}
 use borrow.Author.Tests.{ltb-true, leb-true, eqb-true, lt-ltb, le-leb}
+use Rattle.arith.proofs.Clash.{clash}
 use Rattle.arith.specs.Value.{scalar}
 use Rattle.record.specs.declared.Shape.{Shape}
 use Rattle.record.specs.declared.Refusal.{Refusal}
@@ -23,26 +23,26 @@ and-left false b e = e
 
 pub and-right : (a b : Bool) → (a && b) ≡ true → b ≡ true
 and-right true b e = e
-and-right false b e = let z : _≡_ {A = ℕ} 0 1 = cc in absurd (omega arith)
+and-right false b e = clash (cc)
 
 pub and-both : (a b : Bool) → a ≡ true → b ≡ true → (a && b) ≡ true
 and-both a b e f = rw (e, f)
 
 -- the first fails, so it is the second
 pub or-second : (a b : Bool) → (a || b) ≡ true → a ≡ false → b ≡ true
-or-second true b e f = let z : _≡_ {A = ℕ} 0 1 = cc in absurd (omega arith)
+or-second true b e f = clash (cc)
 or-second false b e f = e
 
 pub or-first : (a b : Bool) → (a || b) ≡ true → b ≡ false → a ≡ true
 or-first true b e f = refl
-or-first false b e f = let z : _≡_ {A = ℕ} 0 1 = cc in absurd (omega arith)
+or-first false b e f = clash (cc)
 
 -- lists that the test takes for equal are equal
 pub same-bytes-eq : (t u : List ℕ) → same-bytes t u ≡ true → t ≡ u
 unfolding same-bytes
 same-bytes-eq [] [] e = refl
-same-bytes-eq [] (y ∷ u) e = let z : _≡_ {A = ℕ} 0 1 = cc in absurd (omega arith)
-same-bytes-eq (x ∷ t) [] e = let z : _≡_ {A = ℕ} 0 1 = cc in absurd (omega arith)
+same-bytes-eq [] (y ∷ u) e = clash (cc)
+same-bytes-eq (x ∷ t) [] e = clash (cc)
 same-bytes-eq (x ∷ t) (y ∷ u) e =
     let h : x ≡ y = eqb-true x y (and-left (eqb x y) (same-bytes t u) e) in
     let k : t ≡ u = same-bytes-eq t u (and-right (eqb x y) (same-bytes t u) e) in
@@ -51,7 +51,7 @@ same-bytes-eq (x ∷ t) (y ∷ u) e =
 -- ---- tests
 pub need-passes : (b : Bool) (k : Refusal) → need b k ≡ Passes → b ≡ true
 need-passes true k e = refl
-need-passes false k e = let z : _≡_ {A = ℕ} 0 1 = cc in absurd (omega arith)
+need-passes false k e = clash (cc)
 
 pub passes-need : (b : Bool) (k : Refusal) → b ≡ true → need b k ≡ Passes
 passes-need b k e = rw e
@@ -62,7 +62,7 @@ and-then-first (Fails k) t e = e
 
 pub and-then-second : (s t : Test) → and-then s t ≡ Passes → t ≡ Passes
 and-then-second Passes t e = e
-and-then-second (Fails k) t e = let z : _≡_ {A = ℕ} 0 1 = cc in absurd (omega arith)
+and-then-second (Fails k) t e = clash (cc)
 
 -- ---- fields
 pub at-most-le : (most x : ℕ) → at-most most x ≡ Passes → x ≤ most

@@ -3,8 +3,8 @@ use Prim.Native.Nat.{ℕ}
 use mathlib.Core.Path.{_≡_, refl, sym, ap, _∙_, subst}
 use mathlib.Core.List.{List, [], _∷_, map}
 use mathlib.Core.Bool.{Bool, true, false, not}
-use native.Mathlib.Omega.{arith}
 use lib.ListN.{length}
+use Rattle.arith.proofs.Clash.{clash}
 use Rattle.record.specs.declared.NameIx.{NameIx}
 use Rattle.record.specs.declared.Limits.{Limits}
 use Rattle.record.specs.declared.Refusal.the-variants.{Types}
@@ -25,7 +25,7 @@ TypedFunction f = Each (λ left b. TypedBody (type-in (f .types)) (b .body)) (f 
 module _ {A : Type 0} (t : NameIx → ℕ) (x : A) (p : ℕ) where
   passed : (b : Bool) (o : ℕ) (next : Res A) → refuse (not b) Types o next ≡ got x p → (b ≡ true) × (next ≡ got x p)
   passed true o next e = (refl, e)
-  passed false o next e = let z : _≡_ {A = ℕ} 0 1 = cc in absurd (omega arith)
+  passed false o next e = clash (cc)
 
   body-typed : (is : List Placed) (next : Res A) → body-types t is next ≡ got x p → TypedBody t (map (λ i. i .it) is) × (next ≡ got x p)
   unfolding body-types
@@ -63,7 +63,7 @@ accept-typed lim s r p e = go (read lim s 0) refl e
         let h = blocks-typed (type-in (function (plain q) .types)) r p (q .blocks) (got q o) e in
         let j : q ≡ r = cc in
         record { reads = k ∙ h .1; typed = subst (λ (z : Record Placed). TypedFunction (function (plain z))) j (h .0) }
-    go (fault a o) k e = let z : _≡_ {A = ℕ} 0 1 = cc in absurd (omega arith)
+    go (fault a o) k e = clash (cc)
 
 -- ---- the other way round: what is read and well typed is accepted
 passes : {A : Type 0} (b : Bool) (o : ℕ) (next : Res A) → b ≡ true → refuse (not b) Types o next ≡ next

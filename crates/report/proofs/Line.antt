@@ -5,8 +5,8 @@ use mathlib.Core.List.{List, [], _∷_, _++_}
 use Rattle.record.specs.Write.{be}
 use Rattle.numbering.specs.Made.{digits}
 use Rattle.numbering.specs.Program.{refused-line}
-use Rattle.emit.specs.Put.{put, Wrote}
-use Rattle.emit.proofs.Wrote.{wrote-append, wrote-number}
+use Rattle.write_bytes.specs.Put.{put, Wrote}
+use Rattle.write_bytes.proofs.Wrote.{wrote-append, wrote-number}
 
 -- `refused `
 abbrev pub refused : List ℕ

@@ -8,6 +8,7 @@ use lib.ListN.{length, take, drop, replicate, length-take, length-replicate}
 use lib.Seq.{take-append-seam}
 use lib.Dec.{ltb}
 use borrow.Author.Tests.{ltb-false, lt-ltb, le-ltb}
+use Rattle.arith.proofs.Clash.{clash}
 use Rattle.record.specs.Record.{Placed, Record, plain, limits}
 use Rattle.record.specs.Reader.{Res, got, fault}
 use Rattle.record.specs.Typing.{accept}
@@ -18,8 +19,8 @@ use Rattle.numbering.specs.declared.Rewritten.the-variants.{Written, Refused, R
 use Rattle.numbering.specs.Made.{made}
 use Rattle.numbering.specs.Rewrite.{rewrite-answer, rewritten-bytes, rewrite-result, rewrite-output, rewrite, rewrite-leaves}
 use Rattle.numbering.specs.Program.{most-input, buffer-size, refused-line, shown, output-with, program-output}
-use Rattle.emit.specs.Put.{Wrote}
-use Rattle.emit.proofs.Put.{length-put, put-first}
+use Rattle.write_bytes.specs.Put.{Wrote}
+use Rattle.write_bytes.proofs.Put.{length-put, put-first}
 
 -- ---- the program's buffer
 -- of a record with these bytes; t: whether it has no room
@@ -109,7 +110,7 @@ prints-line s l {m} {r} a e w h =
 
 -- a rewriting: what is written fits
 written-by : (room m j n k : ℕ) (t : Bool) → ltb room m ≡ t → cond t (Room m) (Written m j) ≡ Written n k → n ≤ room
-written-by room m j n k true q e = absurd (let z : _≡_ {A = ℕ} 0 1 = cc in omega arith)
+written-by room m j n k true q e = clash (cc)
 written-by room m j n k false q e =
     let f : m ≡ n = cc in
     let h : m ≤ room = ltb-false room m q in
@@ -120,7 +121,7 @@ unfolding rewrite rewrite-result
 written-fits s b n k e = go (accept limits s) e
   where
     go : (v : Res (Record Placed)) → rewrite-result (length b) v ≡ Written n k → n ≤ length b
-    go (fault f o) q = absurd (let z : _≡_ {A = ℕ} 0 1 = cc in omega arith)
+    go (fault f o) q = clash (cc)
     go (got r p) q =
         let m = length (rewritten-bytes r) in
         written-by (length b) m (length (made (plain r))) n k (ltb (length b) m) refl q

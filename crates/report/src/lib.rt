@@ -5,18 +5,18 @@ ghost use mathlib.Core.List.{[], _∷_};
 ghost use Prim.Native.Nat.{_≤_};
 ghost use lib.ListN.{length, take};
 ghost use Rattle.numbering.specs.Program.{refused-line, program-output};
-ghost use Rattle.emit.specs.Put.{Wrote};
+ghost use Rattle.write_bytes.specs.Put.{Wrote};
 
 // The line of a refusal, from the first byte on; how long it is.
 pub fn put_refusal(out: &mut [u8], number: u8, value: usize) -> usize
     ensures { λ r. ⌜
         Wrote (now (out .entry)) (now (out .exit)) 0 r (refused-line (record { number = number; values = value ∷ [] })) × (r ≤ 36) ⌝ }
 {
-    let p = emit::copy_bytes(b"refused ", 0, 8, out, 0);
-    let q = emit::put_digits(out, p, number as u64);
-    let from = emit::copy_bytes(b" at ", 0, 4, out, q);
-    let end = emit::put_digits(out, from, value as u64);
-    emit::put_u8(out, end, b'\n');
+    let p = write_bytes::copy_bytes(b"refused ", 0, 8, out, 0);
+    let q = write_bytes::put_digits(out, p, number as u64);
+    let from = write_bytes::copy_bytes(b" at ", 0, 4, out, q);
+    let end = write_bytes::put_digits(out, from, value as u64);
+    write_bytes::put_u8(out, end, b'\n');
     end + 1
 }
 

@@ -8,6 +8,7 @@ use lib.ListN.{length, take, drop, replicate, length-map, length-replicate}
 use lib.Seq.{sets, sets-eq, take-append-seam}
 use lib.Dec.{ltb}
 use borrow.Author.Tests.{lt-ltb, le-ltb}
+use Rattle.arith.proofs.Clash.{clash}
 use Rattle.record.specs.declared.Refusal.{Refusal}
 use Rattle.record.specs.declared.Checked.the-variants as answer
 use Rattle.record.specs.Record.{Placed, Name, Record, plain, limits}
@@ -23,12 +24,12 @@ use Rattle.numbering.specs.declared.Rewritten.the-variants.{Written, Refused, R
 use Rattle.numbering.specs.Made.{made}
 use Rattle.numbering.specs.Rewrite.{rewritten-bytes, rewrite-result, rewrite-output, rewrite, rewrite-leaves}
 use Rattle.numbering.proofs.Size.{rewriting-size}
-use Rattle.emit.specs.Put.{put}
-use Rattle.emit.proofs.Put.{put-first}
-use Rattle.typing.specs.Passes.{types-from}
-use Rattle.tables.specs.Named.{places-from, NamesAt}
-use Rattle.tables.proofs.Laws.{places-hold}
-use Rattle.blocks.proofs.Whole.{record-again}
+use Rattle.write_bytes.specs.Put.{put}
+use Rattle.write_bytes.proofs.Put.{put-first}
+use Rattle.check_types.specs.Passes.{types-from}
+use Rattle.write_names.specs.Named.{places-from, NamesAt}
+use Rattle.write_names.proofs.Laws.{places-hold}
+use Rattle.lvn_blocks.proofs.Whole.{record-again}
 use Rattle.rewrite.specs.Parts.{record-in, rewriting-in, Reads, types-in}
 use Rattle.rewrite.proofs.ReadSize.{read-size}
 use Rattle.rewrite.proofs.Known.{few-names, record-ok}
@@ -65,7 +66,7 @@ accepted-got s h = go (accept limits s) refl h
   where
     go : (v : Res (Record Placed)) → accept limits s ≡ v → checked-as v ≡ answer.Accepted → Got s
     go (got r p) e h = record { it = r; behind = p; got = e }
-    go (fault k o) e h = let z : _≡_ {A = ℕ} 0 1 = cc in absurd (omega arith)
+    go (fault k o) e h = clash (cc)
 
 module _ (s : List ℕ) (h : checked s ≡ answer.Accepted) where
   reads : read limits s 0 ≡ got (accepted-got s h .it) (accepted-got s h .behind)
@@ -107,7 +108,7 @@ module _ (s : List ℕ) (k : Refusal) (o : ℕ) (h : checked s ≡ answer.Refuse
   refused-result = go (accept limits s) h
     where
       go : (v : Res (Record Placed)) → checked-as v ≡ answer.Refused k o → Refused k o ≡ rewrite-result (length out) v
-      go (got r p) e = let z : _≡_ {A = ℕ} 0 1 = cc in absurd (omega arith)
+      go (got r p) e = clash (cc)
       go (fault a b) e = cc
 
   pub refused-output : out ≡ rewrite-leaves s out
@@ -115,7 +116,7 @@ module _ (s : List ℕ) (k : Refusal) (o : ℕ) (h : checked s ≡ answer.Refuse
   refused-output = go (accept limits s) h
     where
       go : (v : Res (Record Placed)) → checked-as v ≡ answer.Refused k o → out ≡ rewrite-output out v
-      go (got r p) e = let z : _≡_ {A = ℕ} 0 1 = cc in absurd (omega arith)
+      go (got r p) e = clash (cc)
       go (fault a b) e = refl
 
 -- ---- written, or too little room; n: the bytes needed

@@ -7,6 +7,7 @@ use native.Mathlib.Omega.{arith}
 use lib.ListN.{length}
 use lib.Dec.{ltb}
 use borrow.Author.Tests.{ltb-false}
+use Rattle.arith.proofs.Clash.{clash}
 use Rattle.record.specs.declared.Limits.{Limits}
 use Rattle.record.specs.declared.Refusal.the-variants.{Length}
 use Rattle.record.specs.declared.Test.{Test}
@@ -28,7 +29,7 @@ field-reaches w test s at h = record { told = λ y q e. go (ltb (length s - at) 
     go :
         (b : Bool) → ltb (length s - at) w ≡ b → (y q : ℕ) →
         refuse b Length at (judge (test (num-at s at w)) at (got (num-at s at w) (at + w))) ≡ got y q → at + w ≤ length s
-    go true k y q e = let z : _≡_ {A = ℕ} 0 1 = cc in absurd (omega arith)
+    go true k y q e = clash (cc)
     go false k y q e = let l : w ≤ length s - at = ltb-false (length s - at) w k in omega arith
 
 module _ {A B : Type 0} {r : Reader A} (f : A → Reader B) {s : List ℕ} {at k : ℕ} where
@@ -38,7 +39,7 @@ module _ {A B : Type 0} {r : Reader A} (f : A → Reader B) {s : List ℕ} {at k
     where
       go : (v : Res A) → r s at ≡ v → (z : B) (o : ℕ) → then v (λ x p. f x s p) ≡ got z o → k ≤ length s
       go (got x p) e z o d = h .told x p e
-      go (fault a b) e z o d = let n : _≡_ {A = ℕ} 0 1 = cc in absurd (omega arith)
+      go (fault a b) e z o d = clash (cc)
 
   then-reaches : {x : A} {p : ℕ} → Decodes r s at x p → Reaches (f x) s p k → Reaches (r >>= f) s at k
   unfolding _>>=_
@@ -48,7 +49,7 @@ module _ {A B : Type 0} {r : Reader A} (f : A → Reader B) {s : List ℕ} {at k
       go (got y q) e z o g =
           let t : (y ≡ x) × (q ≡ p) = d .told y q e in
           h .told z o (sym (λ i. f (t .0 i) s (t .1 i)) ∙ g)
-      go (fault a b) e z o g = let n : _≡_ {A = ℕ} 0 1 = cc in absurd (omega arith)
+      go (fault a b) e z o g = clash (cc)
 
 contents-reach : (lim : Limits) (s : List ℕ) → Reaches (contents lim) s 4 (names-end s + 2)
 unfolding contents names-end

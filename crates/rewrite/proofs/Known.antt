@@ -20,15 +20,15 @@ use Rattle.numbering.specs.Number.{lvn}
 use Rattle.numbering.specs.Made.{made-names, made, rewriting}
 use Rattle.numbering.proofs.Made.{temps-behind}
 use Rattle.numbering.proofs.Wide.{input-blocks, blocks-few, made-count, made-few, made-original, rewriting-names, blocks-length}
-use Rattle.emit.specs.Put.{put, Wrote, IdWidth}
-use Rattle.emit.proofs.Put.{put-first, length-put}
-use Rattle.emit.proofs.Numbers.{id-width}
-use Rattle.tables.specs.Named.{Named, Short}
-use Rattle.tables.proofs.Copied.{behind-on, names-copied, names-short}
-use Rattle.blocks.specs.declared.Places.{Places}
-use Rattle.blocks.specs.Block.{indexes}
-use Rattle.blocks.specs.Blocks.{blocks-in, BlocksPass, BlocksAsk, BlocksDone}
-use Rattle.blocks.proofs.Whole.{record-again, accepted-blocks, accepted-pass, blocks-again, blocks-written, made-noted, made-many}
+use Rattle.write_bytes.specs.Put.{put, Wrote, IdWidth}
+use Rattle.write_bytes.proofs.Put.{put-first, length-put}
+use Rattle.write_bytes.proofs.Numbers.{id-width}
+use Rattle.write_names.specs.Named.{Named, Short}
+use Rattle.write_names.proofs.Copied.{behind-on, names-copied, names-short}
+use Rattle.lvn_blocks.specs.declared.Places.{Places}
+use Rattle.lvn_blocks.specs.Block.{indexes}
+use Rattle.lvn_blocks.specs.Blocks.{blocks-in, BlocksPass, BlocksAsk, BlocksDone}
+use Rattle.lvn_blocks.proofs.Whole.{record-again, accepted-blocks, accepted-pass, blocks-again, blocks-written, made-noted, made-many}
 use Rattle.rewrite.specs.Parts.{record-in, rewriting-in, front-parts, blocks-bytes, Reads, types-in, Noted}
 use Rattle.rewrite.proofs.Inside.{names-inside}
 use Rattle.rewrite.proofs.Parts.{front-total, front-written}

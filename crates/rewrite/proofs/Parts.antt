@@ -8,9 +8,9 @@ use Rattle.record.specs.Record.{Instr, Name, Record}
 use Rattle.record.specs.Write.{be, join, name-bytes, content-bytes, bytes}
 use Rattle.record.proofs.Stands.{length-be}
 use Rattle.record.proofs.Sizes.{join-cons, join-nil, total, record-size}
-use Rattle.emit.specs.Put.{put, Wrote}
-use Rattle.emit.proofs.Put.{put-before, put-over, put-part}
-use Rattle.emit.proofs.Wrote.{wrote-append, wrote-number}
+use Rattle.write_bytes.specs.Put.{put, Wrote}
+use Rattle.write_bytes.proofs.Put.{put-before, put-over, put-part}
+use Rattle.write_bytes.proofs.Wrote.{wrote-append, wrote-number}
 use Rattle.rewrite.specs.Parts.{front-parts, blocks-bytes}
 
 join-append : (xs ys : List (List ℕ)) → join xs ++ join ys ≡ join (xs ++ ys)

@@ -7,6 +7,7 @@ use mathlib.Core.Bool.{Bool, true, false, cond, not}
 use native.Mathlib.Omega.{arith}
 use lib.ListN.{length, take, drop, length-append}
 use lib.Dec.{ltb, eqb}
+use Rattle.arith.proofs.Clash.{clash}
 use Rattle.record.specs.declared.Shape.{Shape}
 use Rattle.record.specs.declared.Limits.{Limits}
 use Rattle.record.specs.declared.Refusal.the-variants.{Length}
@@ -35,13 +36,13 @@ module _ {s : List ℕ} where
           (at : ℕ) (b : Bool) → ltb (length s - at) w ≡ b → (t : Test) (x p : ℕ) →
           refuse b Length at (judge t at (got (num-at s at w) (at + w))) ≡ got x p →
           Between s at p (λ b. w ≡ length b)
-      go at true l t x p e = let z : _≡_ {A = ℕ} 0 1 = cc in absurd (omega arith)
+      go at true l t x p e = clash (cc)
       go at false l Passes x p e =
           let q : at + w ≡ p = cc in
           let there : text w (λ t. Passes) s at ≡ got (take w (drop at s)) p = rw l (ap (got (take w (drop at s))) q) in
           let b = text-takes w (λ t. Passes) .takes at (take w (drop at s)) p there in
           record { taken = b .taken; stand = b .stand; ends = b .ends; told = sym (b .told .0) ∙ ap length (b .told .1) }
-      go at false l (Fails k) x p e = let z : _≡_ {A = ℕ} 0 1 = cc in absurd (omega arith)
+      go at false l (Fails k) x p e = clash (cc)
 
   there-spans :
       {A : Type 0} (b : Bool) (d : A) {r : Reader A} (n : A → ℕ) →

@@ -9,8 +9,8 @@ use Rattle.record.specs.Read.{read}
 use Rattle.record.specs.Write.{be, join, name-bytes, block-bytes}
 use Rattle.record.specs.Decode.{names-count, names-end, record-from}
 use Rattle.numbering.specs.Made.{made, rewriting}
-use Rattle.tables.specs.Named.{NamesAt}
-use Rattle.blocks.specs.Block.{indexes}
+use Rattle.write_names.specs.Named.{NamesAt}
+use Rattle.lvn_blocks.specs.Block.{indexes}
 
 -- the record that stands in these bytes, and its rewriting
 abbrev pub record-in : List ℕ → Record Instr

@@ -1,7 +1,7 @@
 // Rewrite: a record is checked and its rewriting written. Where the output surely has room, the blocks are written once and then moved
 // behind the names that are made. Otherwise they are numbered twice: over an empty output, which gives the bytes needed and the made
 // names, then over the output.
-use blocks::Places;
+use lvn_blocks::Places;
 use numbering::Rewritten;
 use record::Checked;
 ghost use mathlib.Core.Path.{_≡_};
@@ -15,8 +15,8 @@ ghost use Rattle.record.specs.Decode.{names-count, record-from};
 ghost use Rattle.record.specs.declared.Checked.the-variants.{Accepted};
 ghost use Rattle.numbering.specs.Made.{made};
 ghost use Rattle.numbering.specs.Rewrite.{rewrite-result, rewrite-output, rewrite, rewrite-leaves};
-ghost use Rattle.tables.specs.Named.{NamesAt};
-ghost use Rattle.emit.specs.Put.{put, Wrote};
+ghost use Rattle.write_names.specs.Named.{NamesAt};
+ghost use Rattle.write_bytes.specs.Put.{put, Wrote};
 ghost use Rattle.rewrite.specs.Parts.{record-in, rewriting-in, front-parts, blocks-bytes, Reads, Lent, Typed, Noted};
 
 // The blocks of the rewriting, from a place on; the place behind them, and K. end: where the input's names end; names: what each K saved.
@@ -35,15 +35,15 @@ pub fn put_blocks(
         Wrote (now (out .entry)) (now (out .exit)) at (r .q) (blocks-bytes (rewriting-in (now (s .entry)))) ×
         (Noted (now (s .entry)) (now (names .exit)) (r .k) × (r .q ≤ at + 2000000)) ⌝ }
 {
-    let w = head::id_bytes(fields::byte_or(s, 4));
-    let args = fields::byte_or(s, 5) as u16;
-    let count = fields::be16(s, end) as usize;
+    let w = check_record::id_bytes(read_fields::byte_or(s, 4));
+    let args = read_fields::byte_or(s, 5) as u16;
+    let count = read_fields::be16(s, end) as usize;
     let a = Places {
         p: end + 2,
         q: at,
         k: 0,
     };
-    blocks::blocks_lvn(s, types, heads, nums, names, out, w, args, a, count)
+    lvn_blocks::blocks_lvn(s, types, heads, nums, names, out, w, args, a, count)
 }
 
 // All that stands before the blocks: L, version, A and N, the names, B; the place behind it. rest: L; k: how many names are made.
@@ -62,15 +62,15 @@ pub fn put_front(
         Wrote (now (out .entry)) (now (out .exit)) 0 r (join (be 4 rest ∷ front-parts (rewriting-in (now (s .entry))))) ×
         ((r ≤ 4000000) × (end + 2 ≤ r)) ⌝ }
 {
-    let version = fields::byte_or(s, 4) as u8;
-    let args = fields::byte_or(s, 5) as u8;
-    let n = fields::be16(s, 6) as u16;
-    let count = fields::be16(s, end) as u16;
-    emit::put_u32(out, 0, rest);
-    tables::put_head(out, version, args, n + k);
-    let p = tables::copy_names(s, out, end);
-    let q = tables::put_made_names(out, p, s, places, names, k as usize);
-    emit::put_u16(out, q, count);
+    let version = read_fields::byte_or(s, 4) as u8;
+    let args = read_fields::byte_or(s, 5) as u8;
+    let n = read_fields::be16(s, 6) as u16;
+    let count = read_fields::be16(s, end) as u16;
+    write_bytes::put_u32(out, 0, rest);
+    write_names::put_head(out, version, args, n + k);
+    let p = write_names::copy_names(s, out, end);
+    let q = write_names::put_made_names(out, p, s, places, names, k as usize);
+    write_bytes::put_u16(out, q, count);
     q + 2
 }
 
@@ -81,7 +81,7 @@ pub fn front_size(s: &[u8], places: &[u32], names: &[u16], end: usize, k: u16) -
     ensures { λ r. ⌜
         (r ≡ length (join (be 4 0 ∷ front-parts (rewriting-in (now (s .entry)))))) × ((r ≤ 5000000) × (end + 2 ≤ r)) ⌝ }
 {
-    end + 2 + tables::made_size(s, places, names, k as usize)
+    end + 2 + write_names::made_size(s, places, names, k as usize)
 }
 
 // How many bytes the rewriting has, and how many saves.
@@ -169,7 +169,7 @@ pub fn put_once(
     let a = put_blocks(s, types, heads, nums, names, out, end, from);
     let n = a.q - from;
     let at = front_size(s, places, names, end, a.k);
-    emit::move_up(out, from, at, n);
+    write_bytes::move_up(out, from, at, n);
     put_front(s, places, names, out, end, a.k, (at + n - 4) as u32);
     Size {
         bytes: at + n,
@@ -241,7 +241,7 @@ pub fn rewrite_typed(
         (r ≡ rewrite-result (length (now (out .entry))) (got (record-from (now (s .entry))) 0)) ×
         (now (out .exit) ≡ rewrite-output (now (out .entry)) (got (record-from (now (s .entry))) 0)) ⌝ }
 {
-    if fields::be16(s, end) <= 4 {
+    if read_fields::be16(s, end) <= 4 {
         let mut few = [0u16; 1024];
         return rewrite_noting(s, types, places, &mut few, end, out);
     }
@@ -257,10 +257,10 @@ pub fn rewrite_accepted(s: &[u8], out: &mut [u8]) -> Rewritten
         (now (out .exit) ≡ rewrite-leaves (now (s .entry)) (now (out .entry))) ⌝ }
 {
     let mut types = [0u8; 256];
-    let n = fields::be16(s, 6);
-    let end = typing::fill_types(s, &mut types, n, 8);
+    let n = read_fields::be16(s, 6);
+    let end = check_types::fill_types(s, &mut types, n, 8);
     let mut places = [0u32; 256];
-    tables::fill_places(s, &mut places, n);
+    write_names::fill_places(s, &mut places, n);
     let count = n as usize;
     rewrite_typed(s, &types[..count], &places, end, out)
 }

@@ -7,6 +7,7 @@ use native.Mathlib.Nat.{div-le-self, lt-of-le-of-lt}
 use native.Mathlib.Omega.{arith}
 use lib.Dec.{eqb}
 use borrow.Author.Tests.{eq-eqb, ne-eqb, le-leb, lt-leb, eqb-true}
+use Rattle.arith.proofs.Clash.{clash}
 use Rattle.arith.specs.Word.{W, least, minus-one, subW, divW, negative, size}
 use Rattle.arith.specs.Value.{int}
 use Rattle.arith.specs.Operation.{divide}
@@ -45,8 +46,8 @@ module _ (a b q : ℕ) (e : q ≡ size a / size b) where
       go : (m n : Bool) → Bool·beq m n ≡ true → q ≡ cond (xor m n) ((W - q) % W) (q % W)
       go true true f = omega arith
       go false false f = omega arith
-      go true false f = absurd (let z : _≡_ {A = ℕ} 0 1 = cc in omega arith)
-      go false true f = absurd (let z : _≡_ {A = ℕ} 0 1 = cc in omega arith)
+      go true false f = clash (cc)
+      go false true f = clash (cc)
 
   pub other-signs : Bool·beq (negative a) (negative b) ≡ false → subW 0 q ≡ divW a b
   unfolding divW xor subW
@@ -55,8 +56,8 @@ module _ (a b q : ℕ) (e : q ≡ size a / size b) where
       go : (m n : Bool) → Bool·beq m n ≡ false → (0 + (W - q)) % W ≡ cond (xor m n) ((W - q) % W) (q % W)
       go true false f = omega arith
       go false true f = omega arith
-      go true true f = absurd (let z : _≡_ {A = ℕ} 0 1 = cc in omega arith)
-      go false false f = absurd (let z : _≡_ {A = ℕ} 0 1 = cc in omega arith)
+      go true true f = clash (cc)
+      go false false f = clash (cc)
 
 -- ---- which divisions stop
 module _ (a b : ℕ) where

@@ -28,14 +28,5 @@ returns-5 c = ap (λ (l : Literal). literal-of l .kind) (sym (c .enum-told5 .giv
 pub literal-kind-spec : {M : Type 1} → statement M
 literal-kind-spec =
     tie.close
-    (tie.spec
-    (λ c. search needs)
-    (λ c. search needs)
-    (λ c. search needs)
-    (λ c. search needs)
-    (λ c. search needs)
-    returns
-    returns-2
-    returns-3
-    returns-4
-    returns-5)
+    (tie.spec (λ c. search needs) (λ c. search needs) (λ c. search needs) (λ c. search needs) (λ c. search needs)
+    returns returns-2 returns-3 returns-4 returns-5)

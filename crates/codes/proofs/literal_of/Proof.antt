@@ -41,11 +41,4 @@ returns-4 c =
 pub literal-of-spec : {M : Type 1} → statement M
 literal-of-spec =
     tie.close
-    (tie.spec
-    (λ c κs. search needs)
-    (λ c κs. search needs)
-    cast-t6
-    returns
-    returns-2
-    returns-3
-    returns-4)
+    (tie.spec (λ c κs. search needs) (λ c κs. search needs) cast-t6 returns returns-2 returns-3 returns-4)

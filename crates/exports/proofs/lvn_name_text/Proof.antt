@@ -1,5 +1,5 @@
 use borrow.Author.Needs.{needs}
-use Rattle.emit.specs.Put.{put}
+use Rattle.write_bytes.specs.Put.{put}
 use Rattle.exports.proofs.Laws.{name-left}
 use Rattle.exports.proofs.lvn_name_text.Statement.{statement}
 use Rattle.exports.proofs.lvn_name_text.Tie as tie
@@ -15,13 +15,5 @@ returns c =
 pub lvn-name-text-spec : {M : Type 1} → statement M
 lvn-name-text-spec =
     tie.close
-    (tie.spec
-    (λ c κs. search needs)
-    (λ c κs. search needs)
-    (λ c. search needs)
-    (λ c κs. search needs)
-    (λ c. search needs)
-    (λ c. search needs)
-    (λ c. search needs)
-    (λ c κs. search needs)
-    returns)
+    (tie.spec (λ c κs. search needs) (λ c κs. search needs) (λ c. search needs) (λ c κs. search needs)
+    (λ c. search needs) (λ c. search needs) (λ c. search needs) (λ c κs. search needs) returns)

@@ -1,6 +1,6 @@
 use borrow.Author.Needs.{needs}
 use mathlib.Core.Path.{sym, ap, _∙_}
-use Rattle.emit.specs.Put.{put}
+use Rattle.write_bytes.specs.Put.{put}
 use Rattle.exports.proofs.Laws.{rewrite-written, rewrite-refused, rewrite-room}
 use Rattle.exports.proofs.lvn_rewrite.Statement.{statement}
 use Rattle.exports.proofs.lvn_rewrite.Tie as tie
@@ -32,21 +32,6 @@ returns-3 c =
 pub lvn-rewrite-spec : {M : Type 1} → statement M
 lvn-rewrite-spec =
     tie.close
-    (tie.spec
-    (λ c κs. search needs)
-    (λ c. search needs)
-    (λ c. search needs)
-    (λ c. search needs)
-    (λ c. search needs)
-    (λ c. search needs)
-    (λ c. search needs)
-    (λ c κs. search needs)
-    (λ c. search needs)
-    (λ c. search needs)
-    (λ c. search needs)
-    (λ c. search needs)
-    returns
-    (λ c. search needs)
-    returns-2
-    (λ c. search needs)
-    returns-3)
+    (tie.spec (λ c κs. search needs) (λ c. search needs) (λ c. search needs) (λ c. search needs) (λ c. search needs)
+    (λ c. search needs) (λ c. search needs) (λ c κs. search needs) (λ c. search needs) (λ c. search needs)
+    (λ c. search needs) (λ c. search needs) returns (λ c. search needs) returns-2 (λ c. search needs) returns-3)

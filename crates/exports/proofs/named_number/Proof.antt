@@ -13,11 +13,5 @@ pub named-number-spec : {M : Type 1} → statement M
 unfolding name-answer
 named-number-spec =
     tie.close
-    (tie.spec
-    (λ c. search needs)
-    (λ c. search needs)
-    (λ c κs. search needs)
-    (λ c. search needs)
-    (λ c. rw (c .enum-told .given .1))
-    returns-2
-    (λ c. rw (c .enum-told2 .given .1)))
+    (tie.spec (λ c. search needs) (λ c. search needs) (λ c κs. search needs) (λ c. search needs)
+    (λ c. rw (c .enum-told .given .1)) returns-2 (λ c. rw (c .enum-told2 .given .1)))

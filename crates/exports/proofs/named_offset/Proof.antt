@@ -14,10 +14,5 @@ pub named-offset-spec : {M : Type 1} → statement M
 unfolding name-answer
 named-offset-spec =
     tie.close
-    (tie.spec
-    (λ c. search needs)
-    (λ c. search needs)
-    (λ c. search needs)
-    (λ c. rw (c .enum-told .given .1))
-    returns-2
+    (tie.spec (λ c. search needs) (λ c. search needs) (λ c. search needs) (λ c. rw (c .enum-told .given .1)) returns-2
     (λ c. rw (c .enum-told2 .given .1)))

@@ -16,11 +16,5 @@ slice-aggregate-write-all c =
 pub run-spec : {M : Type 1} → statement M
 run-spec =
     tie.close
-    (tie.spec
-    (λ c. search needs)
-    (λ c κs. search needs)
-    (λ c κs. search needs)
-    array-share-prefix-buffer
-    slice-aggregate-write-all
-    (λ c κs. search needs)
-    (λ c. search needs))
+    (tie.spec (λ c. search needs) (λ c κs. search needs) (λ c κs. search needs) array-share-prefix-buffer
+    slice-aggregate-write-all (λ c κs. search needs) (λ c. search needs))

@@ -4,7 +4,7 @@ use native.Mathlib.Omega.{arith}
 use lib.ListN.{length}
 use Rattle.numbering.specs.Made.{digits}
 use Rattle.numbering.proofs.Digits.{digits-few}
-use Rattle.emit.specs.Put.{Wrote}
+use Rattle.write_bytes.specs.Put.{Wrote}
 use Rattle.report.proofs.Line.{line-wrote}
 use borrow.Author.Needs.{needs}
 use Rattle.report.proofs.put_refusal.Statement.{statement}
@@ -28,14 +28,6 @@ returns c =
 pub put-refusal-spec : {M : Type 1} → statement M
 put-refusal-spec =
     tie.close
-    (tie.spec
-    (λ c. search needs)
-    (λ c κs. search needs)
-    (λ c κs. search needs)
-    (λ c. search needs)
-    (λ c κs. search needs)
-    (λ c κs. search needs)
-    (λ c κs. search needs)
-    (λ c. search needs)
-    (λ c. search needs)
+    (tie.spec (λ c. search needs) (λ c κs. search needs) (λ c κs. search needs) (λ c. search needs)
+    (λ c κs. search needs) (λ c κs. search needs) (λ c κs. search needs) (λ c. search needs) (λ c. search needs)
     returns)

@@ -25,8 +25,4 @@ returns c =
 pub front-size-spec : {M : Type 1} → statement M
 front-size-spec =
     tie.close
-    (tie.spec
-    (λ c. search needs)
-    made-size-requires
-    add-result-2
-    returns)
+    (tie.spec (λ c. search needs) made-size-requires add-result-2 returns)

@@ -40,16 +40,6 @@ returns c =
 pub put-blocks-spec : {M : Type 1} → statement M
 put-blocks-spec =
     tie.close
-    (tie.spec
-    (λ c κs. search needs)
-    (λ c κs. search needs)
-    (λ c κs. search needs)
-    (λ c. search needs)
-    (λ c κs. search needs)
-    (λ c. search needs)
-    blocks-lvn-requires
-    (λ c. search needs)
-    (λ c. search needs)
-    (λ c. search needs)
-    (λ c. search needs)
-    returns)
+    (tie.spec (λ c κs. search needs) (λ c κs. search needs) (λ c κs. search needs) (λ c. search needs)
+    (λ c κs. search needs) (λ c. search needs) blocks-lvn-requires (λ c. search needs) (λ c. search needs)
+    (λ c. search needs) (λ c. search needs) returns)

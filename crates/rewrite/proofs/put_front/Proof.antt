@@ -65,21 +65,7 @@ returns c =
 pub put-front-spec : {M : Type 1} → statement M
 put-front-spec =
     tie.close
-    (tie.spec
-    (λ c κs. search needs)
-    (λ c. search needs)
-    (λ c κs. search needs)
-    (λ c. search needs)
-    (λ c κs. search needs)
-    (λ c. search needs)
-    (λ c κs. search needs)
-    (λ c. search needs)
-    (λ c κs. search needs)
-    add-put-head
-    (λ c κs. search needs)
-    copy-names-requires
-    put-made-names-requires
-    put-u16-requires
-    add-result
-    (λ c. search needs)
-    returns)
+    (tie.spec (λ c κs. search needs) (λ c. search needs) (λ c κs. search needs) (λ c. search needs)
+    (λ c κs. search needs) (λ c. search needs) (λ c κs. search needs) (λ c. search needs) (λ c κs. search needs)
+    add-put-head (λ c κs. search needs) copy-names-requires put-made-names-requires put-u16-requires add-result
+    (λ c. search needs) returns)

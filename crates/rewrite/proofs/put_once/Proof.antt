@@ -53,19 +53,6 @@ returns c =
 pub put-once-spec : {M : Type 1} → statement M
 put-once-spec =
     tie.close
-    (tie.spec
-    (λ c. search needs)
-    (λ c κs. search needs)
-    (λ c. search needs)
-    (λ c κs. search needs)
-    move-up-requires
-    (λ c. search needs)
-    sub-put-front
-    (λ c. search needs)
-    put-front-requires
-    (λ c. search needs)
-    (λ c. search needs)
-    (λ c. search needs)
-    (λ c. search needs)
-    (λ c. search needs)
-    returns)
+    (tie.spec (λ c. search needs) (λ c κs. search needs) (λ c. search needs) (λ c κs. search needs) move-up-requires
+    (λ c. search needs) sub-put-front (λ c. search needs) put-front-requires (λ c. search needs) (λ c. search needs)
+    (λ c. search needs) (λ c. search needs) (λ c. search needs) returns)

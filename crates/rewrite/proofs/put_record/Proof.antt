@@ -27,13 +27,5 @@ returns c =
 pub put-record-spec : {M : Type 1} → statement M
 put-record-spec =
     tie.close
-    (tie.spec
-    sub-put-front
-    (λ c. search needs)
-    (λ c κs. search needs)
-    put-blocks-requires
-    (λ c. search needs)
-    (λ c. search needs)
-    (λ c. search needs)
-    (λ c. search needs)
-    returns)
+    (tie.spec sub-put-front (λ c. search needs) (λ c κs. search needs) put-blocks-requires (λ c. search needs)
+    (λ c. search needs) (λ c. search needs) (λ c. search needs) returns)

@@ -18,11 +18,5 @@ returns-2 c =
 pub rewrite-spec : {M : Type 1} → statement M
 rewrite-spec =
     tie.close
-    (tie.spec
-    (λ c κs. search needs)
-    (λ c. search needs)
-    rewrite-accepted-requires
-    (λ c. search needs)
-    (λ c. search needs)
-    (λ c. search needs)
-    returns-2)
+    (tie.spec (λ c κs. search needs) (λ c. search needs) rewrite-accepted-requires (λ c. search needs)
+    (λ c. search needs) (λ c. search needs) returns-2)

@@ -42,15 +42,6 @@ returns c =
 pub rewrite-accepted-spec : {M : Type 1} → statement M
 rewrite-accepted-spec =
     tie.close
-    (tie.spec
-    (λ c κs. search needs)
-    (λ c. search needs)
-    (λ c κs. search needs)
-    (λ c. search needs)
-    (λ c κs. search needs)
-    array-share-prefix-types
-    slice-aggregate-rewrite-typed
-    (λ c. search needs)
-    rewrite-typed-requires
-    (λ c. search needs)
-    returns)
+    (tie.spec (λ c κs. search needs) (λ c. search needs) (λ c κs. search needs) (λ c. search needs)
+    (λ c κs. search needs) array-share-prefix-types slice-aggregate-rewrite-typed (λ c. search needs)
+    rewrite-typed-requires (λ c. search needs) returns)

@@ -28,17 +28,6 @@ returns c =
 pub rewrite-noting-spec : {M : Type 1} → statement M
 rewrite-noting-spec =
     tie.close
-    (tie.spec
-    (λ c. search needs)
-    (λ c. search needs)
-    put-once-requires
-    (λ c. search needs)
-    (λ c. search needs)
-    (λ c. search needs)
-    returns
-    (λ c. search needs)
-    (λ c. search needs)
-    (λ c κs. search needs)
-    (λ c. search needs)
-    (λ c. search needs)
-    (λ c. search needs))
+    (tie.spec (λ c. search needs) (λ c. search needs) put-once-requires (λ c. search needs) (λ c. search needs)
+    (λ c. search needs) returns (λ c. search needs) (λ c. search needs) (λ c κs. search needs) (λ c. search needs)
+    (λ c. search needs) (λ c. search needs))

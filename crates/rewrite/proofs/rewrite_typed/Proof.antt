@@ -12,13 +12,5 @@ rewrite-noting-requires-2 c κs =
 pub rewrite-typed-spec : {M : Type 1} → statement M
 rewrite-typed-spec =
     tie.close
-    (tie.spec
-    (λ c κs. search needs)
-    (λ c. search needs)
-    (λ c κs. search needs)
-    (λ c. search needs)
-    (λ c. search needs)
-    (λ c. search needs)
-    rewrite-noting-requires-2
-    (λ c. search needs)
-    (λ c. search needs))
+    (tie.spec (λ c κs. search needs) (λ c. search needs) (λ c κs. search needs) (λ c. search needs)
+    (λ c. search needs) (λ c. search needs) rewrite-noting-requires-2 (λ c. search needs) (λ c. search needs))

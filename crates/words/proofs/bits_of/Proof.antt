@@ -23,9 +23,6 @@ returns c =
 pub bits-of-spec : {M : Type 1} → statement M
 bits-of-spec =
     tie.close
-    (tie.spec
-    (λ c. rw (flip c) (tt, record { fits = omega arith }))
-    (λ c. rw (flip c) (omega arith))
-    (λ c. rw (toZ-low _ (low _ (c .if1 .left))) (tt, fits-ofZ (c .before .fits .x)))
-    returns
+    (tie.spec (λ c. rw (flip c) (tt, record { fits = omega arith })) (λ c. rw (flip c) (omega arith))
+    (λ c. rw (toZ-low _ (low _ (c .if1 .left))) (tt, fits-ofZ (c .before .fits .x))) returns
     (λ c. rw (toZ-low _ (low _ (c .if1 .left)))))

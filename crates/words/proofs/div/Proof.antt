@@ -34,12 +34,5 @@ returns-2 c =
 pub div-spec : {M : Type 1} → statement M
 div-spec =
     tie.close
-    (tie.spec
-    (λ c κs. search needs)
-    (λ c κs. search needs)
-    div-q
-    (λ c κs. search needs)
-    (λ c κs. search needs)
-    (λ c κs. search needs)
-    returns
-    returns-2)
+    (tie.spec (λ c κs. search needs) (λ c κs. search needs) div-q (λ c κs. search needs) (λ c κs. search needs)
+    (λ c κs. search needs) returns returns-2)

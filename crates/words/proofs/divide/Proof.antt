@@ -24,8 +24,6 @@ pub divide-spec : {M : Type 1} → statement M
 unfolding quotient-of
 divide-spec =
     tie.close
-    (tie.spec
-    (λ c. by-zero-stops _ _ (c .if1 .taken))
+    (tie.spec (λ c. by-zero-stops _ _ (c .if1 .taken))
     (λ c. overflow-stops _ _ (c .before .before .if1 .left) (c .before .if2 .taken) (c .if3 .taken))
-    (λ c κs. search needs)
-    returns-3)
+    (λ c κs. search needs) returns-3)

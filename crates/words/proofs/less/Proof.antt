@@ -10,7 +10,5 @@ pub less-spec : {M : Type 1} → statement M
 unfolding ltW addW
 less-spec =
     tie.close
-    (tie.spec
-    (λ c κs. search needs)
-    (λ c κs. search needs)
+    (tie.spec (λ c κs. search needs) (λ c κs. search needs)
     (λ c. ap₂ ltb (c .before .add .ensures) (c .add2 .ensures)))

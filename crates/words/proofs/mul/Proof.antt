@@ -12,11 +12,6 @@ returns c = rw (c .before .add .ensures) at (c .add2 .ensures) ∙ product (c .b
 pub mul-spec : {M : Type 1} → statement M
 mul-spec =
     tie.close
-    (tie.spec
-    (λ c. fits-product (omega arith) (omega arith))
-    (λ c. fits-product (omega arith) (omega arith))
-    (λ c κs. search needs)
-    (λ c. fits-product (omega arith) (omega arith))
-    (λ c. search needs)
-    (λ c κs. search needs)
+    (tie.spec (λ c. fits-product (omega arith) (omega arith)) (λ c. fits-product (omega arith) (omega arith))
+    (λ c κs. search needs) (λ c. fits-product (omega arith) (omega arith)) (λ c. search needs) (λ c κs. search needs)
     returns)

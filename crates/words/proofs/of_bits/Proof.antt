@@ -12,9 +12,5 @@ use Rattle.words.proofs.of_bits.Tie as tie
 pub of-bits-spec : {M : Type 1} → statement M
 of-bits-spec =
     tie.close
-    (tie.spec
-    (λ c. search needs)
-    (λ c. search needs)
-    (λ c. search needs)
-    (λ c. search needs)
+    (tie.spec (λ c. search needs) (λ c. search needs) (λ c. search needs) (λ c. search needs)
     (λ c. let e : minus-one - (minus-one - c .before .args .b) ≡ c .before .args .b = omega arith in ap (toZ w64) e))

@@ -9,7 +9,6 @@ use Rattle.words.proofs.size.Tie as tie
 pub size-spec : {M : Type 1} → statement M
 size-spec =
     tie.close
-    (tie.spec
-    (λ c κs. search needs)
+    (tie.spec (λ c κs. search needs)
     (λ c. c .sub .ensures ∙ size-negative (c .before .before .args .a) (omega arith) (omega arith))
     (λ c. size-positive (c .before .args .a) (omega arith)))

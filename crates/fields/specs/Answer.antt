@@ -1,9 +1,0 @@
--- What the readers of a field answer, as a result of reading.
-use Prim.Native.Nat.{ℕ}
-use Rattle.record.specs.Reader.{Res, got, fault}
-use Rattle.fields.specs.declared.Num.{Num}
-use Rattle.fields.specs.declared.Num.the-variants.{Is, No}
-
-abbrev pub res : Num → Res ℕ
-res (Is x p) = got x p
-res (No k o) = fault k o

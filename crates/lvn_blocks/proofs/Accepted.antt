@@ -1,0 +1,126 @@
+-- Instructions of an accepted record, read again, are ones that numbering takes: their names are below 256, they read their arguments,
+-- and their operations are of the codes that they have.
+use Prim.Native.Nat.{ℕ, suc, _+_, _-_, _<_, _≤_}
+use mathlib.Core.Path.{_≡_, refl, sym, ap, _∙_, subst}
+use mathlib.Core.Logic.{_≢_}
+use mathlib.Core.List.{List, [], _∷_}
+use mathlib.Core.Bool.{Bool, true, false, not, _&&_, _||_, true≢false}
+use native.Mathlib.Omega.{arith}
+use lib.ListN.{length}
+use lib.Dec.{ltb, eqb}
+use borrow.Author.Tests.{ltb-true, eq-eqb, not-true}
+use Rattle.arith.specs.Code.{code1, code2, with-code, one-of, two-of}
+use Rattle.record.specs.declared.NameIx.{NameIx}
+use Rattle.record.specs.declared.Op.{Op}
+use Rattle.record.specs.declared.Op.the-variants.{Const, One, Two, New, Effect, Nop, Jmp, Br, Ret}
+use Rattle.record.specs.Record.{nm, Instr}
+use Rattle.record.specs.Shape.{shape-of}
+use Rattle.record.specs.Form.{form}
+use Rattle.record.specs.Reader.{num-at}
+use Rattle.record.specs.Good.{There, Each, IndexOk, InstrOk}
+use Rattle.record.specs.Decode.{items, behind, operands-from, instr-from, instr-end}
+use Rattle.record.proofs.Tests.{and-left, and-right, below-lt, code-known}
+use Rattle.record.proofs.Form.{all-below, at-known}
+use Rattle.numbering.specs.Number.{reads}
+use Rattle.numbering.proofs.Codes.{reads-args, reads-below}
+use Rattle.codes.specs.Op.{op-of}
+use Rattle.read_instrs.specs.declared.Read.{Read}
+use Rattle.read_instrs.specs.Again.{ReadAgain}
+use Rattle.lvn_state.specs.Room.{Low}
+use Rattle.lvn_instr.specs.View.{Formed, Fit, Ready}
+use Rattle.lvn_blocks.specs.Block.{instrs-from, instrs-end, Passing}
+
+-- ---- the operation of a code
+formed : Op → Bool
+formed Const = true
+formed (One o) = true
+formed (Two o) = true
+formed (New c) = ltb 14 c && ltb c 64
+formed (Effect c) = ltb 66 c && not (eqb c 69)
+formed Nop = true
+formed Jmp = true
+formed Br = true
+formed Ret = true
+
+not-eqb : (c d : ℕ) → eqb c d ≡ false → c ≢ d
+not-eqb c d e p = true≢false (sym (eq-eqb c d p) ∙ e)
+
+formed-true : (o : Op) → formed o ≡ true → Formed o
+unfolding formed
+formed-true Const e = tt
+formed-true (One o) e = tt
+formed-true (Two o) e = tt
+formed-true (New c) e =
+    (ltb-true 14 c (and-left (ltb 14 c) (ltb c 64) e), ltb-true c 64 (and-right (ltb 14 c) (ltb c 64) e))
+formed-true (Effect c) e =
+    (ltb-true 66 c (and-left (ltb 66 c) (not (eqb c 69)) e), not-eqb c 69 (not-true (eqb c 69) (and-right (ltb 66 c) (not (eqb c 69)) e)))
+formed-true Nop e = tt
+formed-true Jmp e = tt
+formed-true Br e = tt
+formed-true Ret e = tt
+
+-- every code is tried
+codes-formed : all-below 72 (λ c. not (shape-of c .known) || formed (op-of c)) ≡ true
+unfolding shape-of op-of formed one-of two-of with-code code1 code2
+codes-formed = refl
+
+op-formed : (c : ℕ) → shape-of c .known ≡ true → Formed (op-of c)
+op-formed c k = formed-true (op-of c) (at-known (λ c. formed (op-of c)) codes-formed c k)
+
+-- ---- names
+low-below : (N : ℕ) (xs : List NameIx) → N ≤ 256 → Each (λ left x. x .0 < N) xs → Low xs
+low-below N [] h e = tt
+low-below N (x ∷ xs) h e = (let l : x .0 < N = e .0 in omega arith, low-below N xs h (e .1))
+
+dest-low : (N : ℕ) (b : Bool) (x : NameIx) → N ≤ 256 → There b (IndexOk N) (nm 0) x → x .0 < 256
+dest-low N true x h e = let l : x .0 < N = below-lt N (x .0) e in omega arith
+dest-low N false x h e = let z : x .0 ≡ 0 = ap (λ (y : NameIx). y .0) e in omega arith
+
+module _ {N B left : ℕ} (t : NameIx → ℕ) (i : Instr) (h : InstrOk N B left i) (few : N ≤ 256) where
+  pub reads-low : Low (reads (form t i))
+  reads-low = low-below N (reads (form t i)) few (reads-below N B left t i h)
+
+  instr-fit : Fit i
+  instr-fit =
+      record {
+        low = subst Low (reads-args N B left t i h) reads-low;
+        dest = dest-low N (shape-of (i .code) .dest) (i .dest) few (h .rest .dest);
+        reading = λ u. reads-args N B left u i h;
+      }
+
+-- ---- an instruction read again
+code-from : (w : ℕ) (s : List ℕ) (at : ℕ) → instr-from w s at .code ≡ num-at s (at + w) 1
+unfolding instr-from operands-from
+code-from w s at = refl
+
+pub ready :
+    {w N B left : ℕ} {s : List ℕ} {at : ℕ} {r : Read} →
+    N ≤ 256 →
+    InstrOk N B left (instr-from w s at) →
+    ReadAgain w s at r →
+    Ready (r .instr)
+ready {w} {N} {B} {left} {s} {at} {r} few h a =
+    let i = instr-from w s at in
+    let known : shape-of (i .code) .known ≡ true = code-known (eqb left 0) (i .code) (h .code) in
+    record {
+      few = a .count;
+      formed = subst Formed (ap op-of (code-from w s at) ∙ sym (a .op)) (op-formed (i .code) known);
+      fit = subst Fit (sym (a .instr)) (instr-fit (λ x. 0) i h few);
+    }
+
+-- ---- instructions in a row
+pub one-more : (n : ℕ) → 0 < n → n ≡ suc (n - 1)
+one-more n h = omega arith
+
+module _ (w : ℕ) (s : List ℕ) (p n : ℕ) (h : 0 < n) where
+  pub instrs-more : instrs-from w s p n ≡ instr-from w s p ∷ instrs-from w s (instr-end w s p) (n - 1)
+  unfolding instrs-from items
+  instrs-more = ap (items (instr-from w s) (instr-end w s) p) (one-more n h)
+
+  pub end-more : instrs-end w s p n ≡ instrs-end w s (instr-end w s p) (n - 1)
+  unfolding instrs-end behind
+  end-more = ap (behind (instr-end w s) p) (one-more n h)
+
+pub passing-all : (N B : ℕ) (is : List Instr) → Each (InstrOk N B) is → Passing N is
+passing-all N B [] h = tt
+passing-all N B (i ∷ is) h = (record { blocks = B; left = length is; ok = h .0 }, passing-all N B is (h .1))

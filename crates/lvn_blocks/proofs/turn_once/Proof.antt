@@ -1,0 +1,76 @@
+-- `lvn_blocks::turn_once` meets its contract.
+use Prim.Native.Nat.{ℕ, _^_, _<_}
+use mathlib.Core.Path.{_≡_, sym, ap, subst, _∙_}
+use native.Mathlib.Omega.{arith}
+use borrow.Author.Needs.{needs}
+use Rattle.record.specs.Decode.{instr-from}
+use Rattle.record.specs.Record.{Instr, type-in}
+use Rattle.record.specs.View.{instr-of}
+use Rattle.numbering.specs.Number.{Emitted, instr-lvn}
+use Rattle.read_instrs.proofs.Again.{instr-readable}
+use Rattle.lvn_state.specs.View.{state-of}
+use Rattle.lvn_blocks.proofs.Accepted.{ready}
+use Rattle.lvn_blocks.proofs.Turned.{lvn-id, turned}
+use Rattle.lvn_blocks.proofs.turn_once.Statement.{statement}
+use Rattle.lvn_blocks.proofs.turn_once.Tie as tie
+
+instr-at-requires : tie.Need-instr-at-requires
+instr-at-requires c κs =
+    let c9 = c .before .before .before .before .before .before .before .before .before in
+    let a = c9 .args in
+    let p = c9 .pre in
+    (omega (arith, p .0 .reads), (p .1 .0, instr-readable (instr-from (a .w) (a .s .now) (a .t .p)) (p .1 .1 .1 .1 .ok)))
+
+instr-lvn-requires : tie.Need-instr-lvn-requires
+instr-lvn-requires c κs =
+    let c5 = c .before .before .before .before .before in
+    let c15 = c5 .before .before .before .before .before .before .before .before .before .before in
+    let p = c15 .pre in
+    let f = p .0 in
+    let tables = p .1 .1 .1 .0 in (
+      ready (f .names) (p .1 .1 .1 .1 .ok) (c5 .instr-at .ensures),
+      (omega (arith, f .room), (omega (arith, f .made, f .names), (p .1 .1 .0, (tables .heads, tables .nums)))),
+    )
+
+put-lines-requires : tie.Need-put-lines-requires
+unfolding instr-of
+put-lines-requires c κs =
+    let c12 = c .before .before .before .before .before .before .before .before .before .before .before .before in
+    let c15 = c12 .before .before .before in
+    let c21 = c15 .before .before .before .before .before .before in
+    let c31 = c21 .before .before .before .before .before .before .before .before .before .before in
+    let a = c31 .args in
+    let p = c31 .pre in
+    let g = c21 .instr-at in
+    let e = c15 .instr-lvn in
+    let st = state-of (a .env .now) (a .homes .now) (a .t .st) (a .heads .now) (a .nums .now) in
+    let ty = type-in (a .types .now) in
+    let i = instr-from (a .w) (a .s .now) (a .t .p) in
+    let k : g .result .instr .id ≡ i .id = ap (λ (x : Instr). x .id) (g .ensures .instr) in
+    let d : e .result .instr .id ≡ instr-lvn (a .n) ty st i .instr .id =
+    ap (λ (x : Emitted). x .instr .id) (e .ensures .0) ∙ ap (λ (x : Instr). instr-lvn (a .n) ty st x .instr .id) (g .ensures .instr) in
+    let id : e .result .instr .id < 256 ^ a .w =
+    subst (λ (n : ℕ). n < 256 ^ a .w) (sym d)
+    (lvn-id ty st i (p .1 .1 .1 .1 .ok) (256 ^ a .w) (subst (λ (n : ℕ). n < 256 ^ a .w) k (g .ensures .id))) in
+    (omega (arith, p .0 .writes), (p .1 .0, (id, e .ensures .1)))
+
+returns : tie.Need-returns
+returns c =
+    let c3 = c .before .before .before in
+    let c7 = c3 .before .before .before .before in
+    let c19 = c7 .before .before .before .before .before .before .before .before .before .before .before .before in
+    let c25 = c19 .before .before .before .before .before .before in
+    let c35 = c25 .before .before .before .before .before .before .before .before .before .before in
+    let a = c35 .args in
+    let g = c25 .instr-at in
+    let e = c19 .instr-lvn in
+    let o = c3 .put-lines .ensures in
+    turned (type-in (a .types .now)) (a .t) (g .result) (e .result) (a .env .now) (a .homes .now) (a .heads .now) (a .nums .now)
+    (e .last .1 .0) (e .last .1 .1 .0) (e .last .1 .1 .1 .0) (e .last .1 .1 .1 .1 .0)
+    (c35 .pre .1 .1 .1 .1 .ok) (g .ensures) (e .ensures .0) (c7 .note-save .ensures) (o .0) (o .1)
+
+pub turn-once-spec : {M : Type 1} → statement M
+turn-once-spec =
+    tie.close
+    (tie.spec instr-at-requires instr-lvn-requires (λ c κs. search needs) put-lines-requires (λ c. search needs)
+    (λ c. search needs) (λ c. search needs) (λ c. search needs) (λ c. search needs) (λ c. search needs) returns)

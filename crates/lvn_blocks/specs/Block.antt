@@ -1,0 +1,106 @@
+-- A block read again, numbered and written: what the code asks of it and what it then has.
+use Prim.Native.Nat.{ℕ, _+_, _*_, _<_, _≤_}
+use mathlib.Core.List.{List, [], _∷_, _++_, map}
+use mathlib.Core.Path.{_≡_}
+use lib.ListN.{length}
+use Rattle.arith.specs.declared.One.the-variants.{Id}
+use Rattle.arith.specs.Code.{code1}
+use Rattle.record.specs.declared.NameIx.{NameIx}
+use Rattle.record.specs.Record.{no-lit, Instr, arg}
+use Rattle.record.specs.Good.{InstrOk}
+use Rattle.record.specs.Write.{join, instr-bytes}
+use Rattle.record.specs.Decode.{items, behind, instr-from, instr-end}
+use Rattle.numbering.specs.State.{State}
+use Rattle.numbering.specs.Number.{Emitted, instr-lvn, block-lvn, saved-in}
+use Rattle.write_bytes.specs.Put.{Wrote, IdWidth}
+use Rattle.lvn_state.specs.View.{state-of}
+use Rattle.lvn_state.specs.Room.{room, Maps}
+use Rattle.lvn_blocks.specs.declared.Turn.{Turn}
+
+-- ---- reading again
+-- n instructions from a place on, and the place behind them; w: the bytes of an id
+unfoldable pub instrs-from : ℕ → List ℕ → ℕ → ℕ → List Instr
+instrs-from w s p n = items (instr-from w s) (instr-end w s) p n
+
+unfoldable pub instrs-end : ℕ → List ℕ → ℕ → ℕ → ℕ
+instrs-end w s p n = behind (instr-end w s) p n
+
+-- an instruction that passes its tests, in a record of N names and so many blocks; left: how many stand behind it
+pub record Passes (N : ℕ) (i : Instr) : Type 0 where
+  pub blocks : ℕ
+  pub left : ℕ
+  pub ok : InstrOk N blocks left i
+
+abbrev pub Passing : ℕ → List Instr → Type 0
+Passing N [] = Unit {0}
+Passing N (i ∷ is) = Passes N i × Passing N is
+
+-- ---- writing
+unfoldable pub body-bytes : ℕ → List Instr → List ℕ
+body-bytes w is = join (map (instr-bytes w) is)
+
+-- `made = id x` before i, whose dest is x
+abbrev pub save-before : Instr → NameIx → Instr
+save-before i made = record { id = i .id; code = code1 Id; dest = made; lit = no-lit; args = i .dest ∷ []; callee = 0; blocks = [] }
+
+-- what saves save
+abbrev pub saved-by : List Instr → List ℕ
+saved-by is = map (λ i. arg i 0 .0) is
+
+abbrev pub indexes : List NameIx → List ℕ
+indexes xs = map (λ x. x .0) xs
+
+-- what is written of an instruction
+abbrev pub lines : Emitted → List Instr
+lines e = e .saves ++ (e .instr ∷ [])
+
+-- ---- what n more instructions ask, of a state, a place in the input and one in the output
+pub record Fit (N : ℕ) (s : State) (p q n : ℕ) : Type 0 where
+  pub names : N ≤ 256
+  pub made : s .temps + n ≤ 32768
+  pub room : room s + n ≤ 512
+  pub reads : p + 43 * n < 4294967000
+  pub writes : q + 86 * n < 4294967000
+
+-- the table of numbered values has room for every number
+pub record Tables (hs ns : List ℕ) : Type 0 where
+  pub heads : 512 ≤ length hs
+  pub nums : 512 ≤ length ns
+
+-- all that is asked where n instructions are left
+pub record Asks (w N : ℕ) (s env homes : List ℕ) (t : Turn) (n : ℕ) (hs ns : List ℕ) : Type 0 where
+  pub width : IdWidth w
+  pub fit : Fit N (state-of env homes (t .st) [] []) (t .p) (t .q) n
+  pub maps : Maps env homes
+  pub tables : Tables hs ns
+  pub passing : Passing N (instrs-from w s (t .p) n)
+
+-- ---- one instruction done: st is the state before it and st′ behind it; made: the table of what each K saved
+abbrev pub emitted-from : ℕ → ℕ → List ℕ → (NameIx → ℕ) → State → ℕ → Emitted
+emitted-from w N s ty st p = instr-lvn N ty st (instr-from w s p)
+
+pub record Turned
+    (w N : ℕ) (s : List ℕ) (ty : NameIx → ℕ) (t r : Turn) (st st′ : State) (made made′ out out′ : List ℕ) : Type 0 where
+  pub state : st′ ≡ emitted-from w N s ty st (t .p) .state
+  pub written : Wrote out out′ (t .q) (r .q) (body-bytes w (lines (emitted-from w N s ty st (t .p))))
+  pub noted : Wrote made made′ (t .st .made) (r .st .made) (indexes (saved-in N (lines (emitted-from w N s ty st (t .p)))))
+  pub next : r .p ≡ instr-end w s (t .p)
+  pub near : r .p ≤ t .p + 43
+  pub close : r .q ≤ t .q + 86
+
+-- ---- n instructions done
+module _ (w N : ℕ) (s : List ℕ) (ty : NameIx → ℕ) where
+  abbrev pub body-of : State → ℕ → ℕ → List Instr
+  body-of st p n = block-lvn N ty st (instrs-from w s p n) .body
+
+  abbrev pub temps-of : State → ℕ → ℕ → ℕ
+  temps-of st p n = block-lvn N ty st (instrs-from w s p n) .temps
+
+pub record Done
+    (w N : ℕ) (s : List ℕ) (ty : NameIx → ℕ) (t r : Turn) (st : State) (n : ℕ) (made made′ out out′ : List ℕ) : Type 0 where
+  pub written : Wrote out out′ (t .q) (r .q) (body-bytes w (body-of w N s ty st (t .p) n))
+  pub noted : Wrote made made′ (t .st .made) (r .st .made) (indexes (saved-in N (body-of w N s ty st (t .p) n)))
+  pub temps : r .st .made ≡ temps-of w N s ty st (t .p) n
+  pub next : r .p ≡ instrs-end w s (t .p) n
+  pub near : r .p ≤ t .p + 43 * n
+  pub close : r .q ≤ t .q + 86 * n

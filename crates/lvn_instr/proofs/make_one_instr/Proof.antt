@@ -1,0 +1,30 @@
+-- `lvn_instr::make_one_instr` meets its contract.
+use mathlib.Core.List.{[], _∷_}
+use native.Mathlib.Omega.{arith}
+use lib.ListN.{take}
+use borrow.Author.Needs.{needs}
+use Rattle.arith.specs.Code.{code1}
+use Rattle.record.proofs.Form.{one-shape}
+use Rattle.record.specs.Answer.{literal-of}
+use Rattle.record.specs.Record.{no-lit}
+use Rattle.record.specs.View.{code-of, instr-of}
+use Rattle.lvn_instr.proofs.make_one_instr.Statement.{statement}
+use Rattle.lvn_instr.proofs.make_one_instr.Tie as tie
+
+returns : tie.Need-returns
+unfolding instr-of code-of literal-of
+returns c = let a = c .before .before .before .args in (
+  (λ z. record {
+    id = a .i .id;
+    code = code1 (a .o);
+    dest = a .i .dest;
+    lit = no-lit;
+    args = c .home-in .ensures z ∷ [];
+    callee = 0;
+    blocks = take (one-shape (a .o) z .blocks) (0 ∷ 0 ∷ []);
+  }),
+  omega arith,
+)
+
+pub make-one-instr-spec : {M : Type 1} → statement M
+make-one-instr-spec = tie.close (tie.spec (λ c κs. search needs) returns)

@@ -1,0 +1,246 @@
+-- Room: seeing keeps it, an instruction takes at most one number more, and a block starts with 256.
+use Prim.Native.Nat.{ℕ, zero, suc, _+_, _<_, _≤_}
+use mathlib.Core.Path.{_≡_, refl, sym, ap, _∙_, subst}
+use mathlib.Core.List.{List, [], _∷_}
+use mathlib.Core.Option.{Option, none, some}
+use native.Mathlib.Omega.{arith}
+use lib.ListN.{length}
+use borrow.Author.Tests.{le-ltb}
+use Rattle.arith.specs.declared.One.the-variants.{Not, Id}
+use Rattle.arith.specs.Map.{pick, upd}
+use Rattle.arith.specs.Operation.{Expr, constant, one, two}
+use Rattle.arith.proofs.Map.{upd-same, upd-other}
+use Rattle.record.specs.declared.NameIx.{NameIx}
+use Rattle.record.specs.Record.{nm, NameIx-discrete, Instr}
+use Rattle.record.specs.Form.{Form, pure, new, effect, return, nop, jump, branch, form}
+use Rattle.numbering.specs.declared.ValNum.{ValNum}
+use Rattle.numbering.specs.State.{vn, State, start-env, start, new-number, update-env, rehome, see, see-at, gen-new-vals}
+use Rattle.numbering.specs.Number.{
+  Saved,
+  no-save,
+  save,
+  save-at,
+  handle-overwrite,
+  get-val-num,
+  number-dest,
+  val-to-instr,
+  make-val,
+  place,
+  by-form,
+  reads,
+  rewrite-instr,
+  instr-lvn,
+}
+use Rattle.lvn_state.specs.declared.LvnState.{LvnState}
+use Rattle.lvn_state.specs.View.{state-of}
+use Rattle.lvn_state.specs.Room.{Low, free, room, Maps}
+use Rattle.lvn_state.proofs.Arguments.{start-more}
+
+pub next-room : (s : State) → s .next ≤ room s
+unfolding room
+next-room s = omega arith
+
+-- maps that keep their lengths keep their places
+pub maps-kept :
+    {env homes env′ homes′ : List ℕ} → length env′ ≡ length env → length homes′ ≡ length homes → Maps env homes → Maps env′ homes′
+maps-kept e h m = record { names = e ∙ m .names; numbers = h ∙ m .numbers }
+
+-- the table takes no part
+pub room-of :
+    (env homes : List ℕ) (s : LvnState) (hs ns ks ms : List ℕ) →
+    room (state-of env homes s hs ns) ≡ room (state-of env homes s ks ms)
+unfolding room
+room-of env homes s hs ns ks ms = refl
+
+module _ (f : NameIx → Option ValNum) (x : NameIx) (v : ValNum) where
+  above : (m : ℕ) → m ≤ x .0 → free m (upd NameIx-discrete f x (some v)) ≡ free m f
+  unfolding free
+  above zero h = refl
+  above (suc m) h =
+      let e : upd NameIx-discrete f x (some v) (nm m) ≡ f (nm m) =
+      upd-other NameIx-discrete f x (some v) (nm m) (λ p. let q : m ≡ x .0 = ap (λ (y : NameIx). y .0) p in omega arith) in
+      rw (e, above m (omega arith))
+
+  -- a name that gets a number is one less without
+  pub fewer : (m : ℕ) → x .0 < m → f x ≡ none → suc (free m (upd NameIx-discrete f x (some v))) ≡ free m f
+  unfolding free
+  fewer zero h e = absurd (omega arith)
+  fewer (suc m) h e = by (fewer m) (NameIx-discrete (nm m) x)
+    where
+      by :
+          (x .0 < m → f x ≡ none → suc (free m (upd NameIx-discrete f x (some v))) ≡ free m f) → Dec (nm m ≡ x) →
+          suc (free (suc m) (upd NameIx-discrete f x (some v))) ≡ free (suc m) f
+      by ih (yes p) =
+          let q : m ≡ x .0 = ap (λ (y : NameIx). y .0) p in
+          let a : upd NameIx-discrete f x (some v) (nm m) ≡ some v = upd-same NameIx-discrete f x (some v) (nm m) p in
+          let b : f (nm m) ≡ none = ap f p ∙ e in
+          let k : free m (upd NameIx-discrete f x (some v)) ≡ free m f = above m (omega arith) in
+          rw (a, b, k) (let z : suc (0 + free m f) ≡ 1 + free m f = omega arith in z)
+      by ih (no n) =
+          let a : upd NameIx-discrete f x (some v) (nm m) ≡ f (nm m) = upd-other NameIx-discrete f x (some v) (nm m) n in
+          let k : suc (free m (upd NameIx-discrete f x (some v))) ≡ free m f =
+          ih (let q : x .0 ≡ m → ⊥ = λ r. n (λ i. nm (sym r i)) in omega arith) e in
+          rw a (let k′ = k in omega arith)
+
+  pub no-more : (m : ℕ) → free m (upd NameIx-discrete f x (some v)) ≤ free m f
+  unfolding free
+  no-more zero = omega arith
+  no-more (suc m) = by (no-more m) (NameIx-discrete (nm m) x)
+    where
+      by :
+          free m (upd NameIx-discrete f x (some v)) ≤ free m f → Dec (nm m ≡ x) →
+          free (suc m) (upd NameIx-discrete f x (some v)) ≤ free (suc m) f
+      by ih (yes p) =
+          let a : upd NameIx-discrete f x (some v) (nm m) ≡ some v = upd-same NameIx-discrete f x (some v) (nm m) p in
+          rw a (omega arith)
+      by ih (no n) =
+          let a : upd NameIx-discrete f x (some v) (nm m) ≡ f (nm m) = upd-other NameIx-discrete f x (some v) (nm m) n in
+          rw a (omega arith)
+
+-- ---- seeing
+-- giving a number to a name that has none keeps the room
+unseen-room : (s : State) (x : NameIx) (e : Option (Expr ValNum)) → x .0 < 256 → s .env x ≡ none → room (new-number s x e) ≡ room s
+unfolding new-number room
+unseen-room s x e h n =
+    let k : suc (free 256 (upd NameIx-discrete (s .env) x (some (vn (s .next))))) ≡ free 256 (s .env) =
+    fewer (s .env) x (vn (s .next)) 256 h n in
+    omega arith
+
+pub see-room : (s : State) (x : NameIx) → x .0 < 256 → room (see s x) ≡ room s
+unfolding see
+see-room s x h = by (s .env x) refl
+  where
+    by : (o : Option ValNum) → s .env x ≡ o → room (see-at s x o) ≡ room s
+    by none e = unseen-room s x none h e
+    by (some v) e = refl
+
+pub gen-room : (s : State) (xs : List NameIx) → Low xs → room (gen-new-vals s xs) ≡ room s
+unfolding gen-new-vals
+gen-room s [] h = refl
+gen-room s (x ∷ xs) h = gen-room (see s x) xs (h .1) ∙ see-room s x (h .0)
+
+-- ---- a number is given or taken
+pub new-room : (s : State) (x : NameIx) (e : Option (Expr ValNum)) → room (new-number s x e) ≤ suc (room s)
+unfolding new-number room
+new-room s x e = let k = no-more (s .env) x (vn (s .next)) 256 in omega arith
+
+pub take-room : (s : State) (x : NameIx) (v : ValNum) → room (update-env s x v) ≤ room s
+unfolding update-env room
+take-room s x v = let k = no-more (s .env) x v 256 in omega arith
+
+-- ---- a save
+-- a save keeps the numbers of the names and adds at most one made name
+pub record Saves (s t : State) : Type 0 where
+  pub next : t .next ≡ s .next
+  pub room : room t ≡ room s
+  pub temps : t .temps ≤ suc (s .temps)
+
+module _ (N : ℕ) (s : State) (i : Instr) where
+  none-saved : Saves s s
+  none-saved = record { next = refl; room = refl; temps = omega arith }
+
+  saved-at : (o : Option ValNum) → Saves s (save-at N s i o .state)
+  unfolding save-at save rehome room
+  saved-at none = none-saved
+  saved-at (some v) = by (NameIx-discrete (s .locs v) (i .dest))
+    where
+      by : (d : Dec (s .locs v ≡ i .dest)) → Saves s (pick d (save N s i v) (no-save s) .state)
+      by (yes p) = record { next = refl; room = refl; temps = omega arith }
+      by (no q) = none-saved
+
+  pub saved-room : (e : Option (Expr ValNum)) → Saves s (handle-overwrite N s i e .state)
+  unfolding handle-overwrite
+  saved-room none = saved-at (s .env (i .dest))
+  saved-room (some (constant v)) = saved-at (s .env (i .dest))
+  saved-room (some (one Not a)) = saved-at (s .env (i .dest))
+  saved-room (some (one Id a)) = by (NameIx-discrete (s .locs a) (i .dest))
+    where
+      by : (d : Dec (s .locs a ≡ i .dest)) → Saves s (pick d (no-save s) (save-at N s i (s .env (i .dest))) .state)
+      by (yes p) = none-saved
+      by (no q) = saved-at (s .env (i .dest))
+  saved-room (some (two o a b)) = saved-at (s .env (i .dest))
+
+-- ---- one instruction
+-- it takes at most one number and one made name more
+pub record Grows (s t : State) : Type 0 where
+  pub room : room t ≤ suc (room s)
+  pub temps : t .temps ≤ suc (s .temps)
+
+grows-new : (s t : State) → Saves s t → (x : NameIx) (e : Option (Expr ValNum)) → Grows s (new-number t x e)
+unfolding new-number
+grows-new s t h x e =
+    let k = new-room t x e in
+    record { room = subst (λ (n : ℕ). room (new-number t x e) ≤ suc n) (h .room) k; temps = h .temps }
+
+grows-take : (s t : State) → Saves s t → (x : NameIx) (v : ValNum) → Grows s (update-env t x v)
+unfolding update-env
+grows-take s t h x v =
+    let k = take-room t x v in
+    let r = h .room in
+    record { room = omega (arith, k, r); temps = h .temps }
+
+module _ (N : ℕ) (s : State) (i : Instr) where
+  numbered-grows :
+      (q : Saved) → Saves s (q .state) → (e : Expr ValNum) (written : Instr) (o : Option ValNum) →
+      Grows s (number-dest q i e written o .state)
+  unfolding number-dest
+  numbered-grows q h e written none = grows-new s (q .state) h (i .dest) (some e)
+  numbered-grows q h e written (some v) = grows-take s (q .state) h (i .dest) v
+
+  pub place-grows : (e : Option (Expr ValNum)) → Grows s (place N s i e .state)
+  unfolding place
+  place-grows none = grows-new s (handle-overwrite N s i none .state) (saved-room N s i none) (i .dest) none
+  place-grows (some e) =
+      numbered-grows (handle-overwrite N s i (some e)) (saved-room N s i (some e)) e (val-to-instr s i e)
+      (get-val-num (handle-overwrite N s i (some e) .state) e)
+
+  same-grows : Grows s s
+  same-grows = record { room = omega arith; temps = omega arith }
+
+  form-grows : (f : Form) → Grows s (by-form N s i f .state)
+  unfolding by-form
+  form-grows (pure e) = place-grows (make-val s e)
+  form-grows (new xs) = place-grows none
+  form-grows (effect xs) = same-grows
+  form-grows (return xs) = same-grows
+  form-grows nop = same-grows
+  form-grows (jump b) = same-grows
+  form-grows (branch a b c) = same-grows
+
+gen-temps : (s : State) (xs : List NameIx) → gen-new-vals s xs .temps ≡ s .temps
+unfolding gen-new-vals see new-number
+gen-temps s [] = refl
+gen-temps s (x ∷ xs) = gen-temps (see s x) xs ∙ by (s .env x)
+  where
+    by : (o : Option ValNum) → see-at s x o .temps ≡ s .temps
+    by none = refl
+    by (some v) = refl
+
+pub instr-grows : (N : ℕ) (t : NameIx → ℕ) (s : State) (i : Instr) → Low (reads (form t i)) → Grows s (instr-lvn N t s i .state)
+unfolding instr-lvn
+instr-grows N t s i low =
+    let xs = reads (form t i) in
+    let seen = gen-new-vals s xs in
+    let g = form-grows N seen (rewrite-instr seen xs i) (form t i) in
+    record {
+      room = subst (λ (n : ℕ). room (instr-lvn N t s i .state) ≤ suc n) (gen-room s xs low) (g .room);
+      temps = subst (λ (n : ℕ). instr-lvn N t s i .state .temps ≤ suc n) (gen-temps s xs) (g .temps);
+    }
+
+-- ---- a block's start
+all-free : (m : ℕ) (f : NameIx → Option ValNum) → ((x : NameIx) → f x ≡ none) → free m f ≡ m
+unfolding free
+all-free zero f h = refl
+all-free (suc m) f h =
+    let k : free m f ≡ m = all-free m f h in
+    rw (h (nm m)) (let k′ = k in omega arith)
+
+none-below : (A : ℕ) (x : NameIx) → A ≤ x .0 → start-env A x ≡ none
+none-below A x h = rw (le-ltb (x .0) A h)
+
+pub start-room : (A k : ℕ) → A ≤ 256 → room (start A k) ≡ 256
+unfolding start room
+start-room zero k h = let e : free 256 (start-env 0) ≡ 256 = all-free 256 (start-env 0) (λ x. none-below 0 x (omega arith)) in omega arith
+start-room (suc A) k h =
+    sym (ap room (start-more A k)) ∙ unseen-room (start A k) (nm A) none (omega arith) (none-below A (nm A) (omega arith)) ∙
+    start-room A k (omega arith)

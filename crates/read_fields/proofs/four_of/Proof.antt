@@ -1,0 +1,16 @@
+-- `read_fields::four_of` meets its contract.
+use mathlib.Core.Path.{sym}
+use native.Mathlib.Omega.{arith}
+use borrow.Author.Needs.{needs}
+use Rattle.read_fields.proofs.Laws.{four-halves}
+use Rattle.read_fields.proofs.four_of.Statement.{statement}
+use Rattle.read_fields.proofs.four_of.Tie as tie
+
+returns : tie.Need-returns
+returns c =
+    let a = c .before .before .before .args in
+    (simp (c .two-of2 .ensures .0, c .before .two-of .ensures .0) (sym (four-halves (a .s .now) (a .at))), omega arith)
+
+pub four-of-spec : {M : Type 1} → statement M
+four-of-spec =
+    tie.close (tie.spec (λ c κs. search needs) (λ c. search needs) (λ c. search needs) (λ c κs. search needs) (λ c. search needs) returns)

@@ -1,0 +1,20 @@
+use borrow.Author.Needs.{needs}
+use Prim.Native.Nat.{ℕ, zero, suc, _+_, _-_, _*_, _<_, _≤_}
+use mathlib.Core.Path.{_≡_, refl, sym, ap, _∙_}
+use native.Mathlib.Omega.{arith}
+use lib.ListN.{length}
+use Rattle.replay_lines.proofs.number.Statement.{statement}
+use Rattle.replay_lines.proofs.number.Tie as tie
+
+abbrev Inv-loop : tie.InvT-loop
+Inv-loop text at p₀ value₀ p value = value < 1000000000
+
+abbrev μ-loop : tie.MeasureT-loop
+μ-loop text at p₀ value₀ p value = length text - p
+
+pub number-spec : {M : Type 1} → statement M
+number-spec =
+    tie.close
+    (tie.spec Inv-loop μ-loop (λ c. search needs) (λ c. search needs) (λ c. search needs) (λ c. search needs)
+    (λ c. search needs) (λ c. search needs) (λ c. search needs) (λ c. search needs) (λ c. search needs)
+    (λ c. search needs) (λ c. search needs))
