@@ -5,4 +5,5 @@ pub mod Heads
 pub mod Blocks
 pub mod Whole
 pub mod Counted
+pub mod Row
 pub mod Lent
