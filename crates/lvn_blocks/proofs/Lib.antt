@@ -6,4 +6,5 @@ pub mod Blocks
 pub mod Whole
 pub mod Counted
 pub mod Row
+pub mod Runs
 pub mod Lent
