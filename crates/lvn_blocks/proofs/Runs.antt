@@ -85,6 +85,15 @@ module _ (ps : List Par) where
       (seq (assign (place last-local []) (rvOpd (copy (place (own-local 0) []))))
       (seq (assign (place 0 []) (aggregate (copy (place (own-local 1) []) ∷ copy (place last-local []) ∷ []))) return)))))
 
+-- ---- a place and a count behind a block
+abbrev pub behind : Spot → SaveCount → Behind
+behind r c = record { at = r; count = c }
+
+made :
+    (r : Spot) (c : SaveCount) → Is S.the-row r (S′.lowered r ∷ []) → Is T.the-row c (T′.lowered c ∷ []) →
+    Is D.the-row (behind r c) (D′.lowered (behind r c) ∷ [])
+made r c at-r at-c = LL.owes D.the-type D′.the-laws (behind r c) (at-r, (at-c, tt))
+
 -- ---- where the row stands, under the result and the first parameter
 module _ {M : Type 1} (𝓤 : URA M) (H : Heap 𝓤) (e₀ e₁ : Ty × ℕ) (cs : List Cell) (bs : Blocks cs) (E : Env 𝓤 H) where
   row-stands : Stands 𝓤 H (e₀ ∷ e₁ ∷ spots cs bs E) 2 cs bs
@@ -94,6 +103,28 @@ module _ {M : Type 1} (𝓤 : URA M) (H : Heap 𝓤) (e₀ e₁ : Ty × ℕ) (cs
       (i : ℕ) (ds : List Cell) (ts : Blocks ds) → Stands 𝓤 H E i ds ts →
       Stands 𝓤 H (e₀ ∷ e₁ ∷ spots cs bs E) (suc (suc (past cs i))) ds ts
   rest-stands i ds ts s = below-one 𝓤 H e₀ _ _ ds ts (below-one 𝓤 H e₁ _ _ ds ts (below-row 𝓤 H cs bs E i ds ts s))
+
+-- ---- the count of a local is the count in memory, and back
+module _ {M : Type 1} (𝓤 : URA M) (H : Heap 𝓤) (A : Atoms 𝓤) (W : Given 𝓤 H A) (b o : ℕ) (c : SaveCount) where
+  into :
+      Is T.the-row c (T′.lowered c ∷ []) →
+      ent 𝓤 (sem 𝓤 H A (fat fullShare T′.mir b o (T′.lowered c))) (sem 𝓤 H A (partAt T.the-row fullShare c b o))
+  unfolding partOf
+  into was =
+      qed W (‵ (fat fullShare T′.mir b o (T′.lowered c)) ∷ []) ∵
+      use1 W (‵ (cellAt fullShare (T.the-row .mir) (T′.lowered c ∷ []) b o)) (W .laws .at-raw fullShare T′.mir b o (T′.lowered c)) $
+      owned ! T.the-row (Is T.the-row) (LL.makes T.the-type T′.the-plain 𝓤 H A) c _ was $ move ! (1 ∷ 0 ∷ []) $ fjoin ! $
+      fpack ! (List Val) (λ vs. fsep (cellAt fullShare (T.the-row .mir) vs b o) (T.the-row .own c vs)) (T′.lowered c ∷ []) $ done !
+
+  out-of :
+      ent 𝓤 (sem 𝓤 H A (partAt T.the-row fullShare c b o))
+      (sep 𝓤 (sem 𝓤 H A (fat fullShare T′.mir b o (T′.lowered c))) (sem 𝓤 H A (T.the-row .own c (T′.lowered c ∷ []))))
+  unfolding partOf
+  out-of =
+      qed W (‵ (partAt T.the-row fullShare c b o) ∷ []) ∵ fpick ! (λ vs. fsplit ! $
+      spelt ! T.the-row (Is T.the-row) (shows 𝓤 H A T.the-row) (LL.vals T.the-type T′.the-laws)
+      (LL.tells T.the-type T′.the-laws) fullShare c vs b o $
+      use1 W (‵ (fat fullShare T′.mir b o (T′.lowered c))) (W .laws .raw-at fullShare T′.mir b o (T′.lowered c)) $ frame ! $ done !)
 
 -- ---- the function to which the count is lent
 module _
@@ -165,3 +196,99 @@ module _
             move ! (9 ∷ 10 ∷ []) $ free1 ! $ move ! (7 ∷ 8 ∷ []) $ free1 ! $ move ! (6 ∷ []) $ free-all ! (lends ps) ts (free0 ! $
             owned ! S.the-row (Is S.the-row) (LL.makes S.the-type S′.the-plain 𝓤 H A) (r .at) _ (fields .0) $
             keep ! (1 ∷ 2 ∷ 3 ∷ 5 ∷ 6 ∷ 0 ∷ []) $ by ! (ends r))))))))))))))))
+
+    -- ---- the function that lends a local count: f is called with the reference to the block l, under the name δ, for the lifetime ν
+    module _
+        (was : Is T.the-row h (T′.lowered h ∷ [])) (P X : SProp 𝓤) (Z : Type 0) (L : SaveCount × Z → Fml) (N : Spot → SaveCount × Z → SProp 𝓤)
+        (Post : Val → SProp 𝓤) (τ : Ty)
+      where
+        abbrev pub lent-at : ℕ → GName → RefT SaveCount
+        lent-at l δ = record { ptr = (l, 0); name = δ; now = h }
+
+        -- what f has returned with
+        abbrev pub Answer : ℕ → GName → Val → SProp 𝓤
+        Answer ν δ w =
+            H .⇛ (ex 𝓤 (λ (r : Spot).
+            sep 𝓤 (sep 𝓤 (sep 𝓤 (sem 𝓤 H A (flft (ν ∷ []) fullShare)) X) (sem 𝓤 H A (S.the-row .own r (w ∷ []))))
+            (ex 𝓤 (λ (zs : SaveCount × Z). sep 𝓤 (sem 𝓤 H A (fsep (fres δ (T.the-row .coded .code (zs .0))) (L zs))) (N r zs)))))
+
+        module _
+            (met :
+            (ν l : ℕ) (δ : GName) →
+            ent 𝓤 (sep 𝓤 (sem 𝓤 H A (flft (ν ∷ []) fullShare))
+            (sep 𝓤 (sem 𝓤 H A (MutRef (named 0) (ν ∷ []) T.the-row .own (lent-at l δ) (vptr l 0 ∷ []))) P))
+            (C f (vptr l 0 ∷ values (passed ps)) (Answer ν δ)))
+            (ends :
+            (r : Spot) (zs : SaveCount × Z) →
+            ent 𝓤 (⋆ 𝓤 H A (raw X ∷ ‵ (L zs) ∷ raw (N r zs) ∷ ‵ (D.the-row .own (behind r (zs .0)) (D′.lowered (behind r (zs .0)) ∷ [])) ∷ []))
+            (Post (D′.lowered (behind r (zs .0)))))
+          where
+            pub after-runs :
+                Seq (Go {0}) W (raw P ∷ [])
+                (allocs (after-locals ps τ) (λ E.
+                params′ E (T′.lowered h ∷ values (passed ps)) (runs C Λ E (after-body ps f) (atRet E Post))))
+            after-runs =
+                let typed = LL.lawful T.the-type T′.the-laws 𝓤 H A W .typed in
+                alloc1 ! (λ l₀. alloc1 ! (λ l₁. alloc-all ! (passed ps) (λ bs. alloc1 ! (λ lc. alloc1 ! (λ ln. alloc1 ! (λ lr.
+                alloc-all ! (lends ps) (λ ts. alloc1 ! (λ ld.
+                let end : Env 𝓤 H = (T′.mir, ld) ∷ [] in
+                let own : Env 𝓤 H = (T′.mir, lc) ∷ (S′.mir, ln) ∷ (tyRef erased mut τ, lr) ∷ spots (lends ps) ts end in
+                let e₀ : Ty × ℕ = (D′.mir, l₀) in
+                let e₁ : Ty × ℕ = (T′.mir, l₁) in
+                let count = behind-row 𝓤 H (passed ps) bs own 0 in
+                let next = behind-row 𝓤 H (passed ps) bs own 1 in
+                let ref = behind-row 𝓤 H (passed ps) bs own 2 in
+                let last = behind-row 𝓤 H (passed ps) bs own (suc (suc (suc (past (lends ps) 0)))) ∙ behind-row 𝓤 H (lends ps) ts end 0 in
+                let at-row = row-stands 𝓤 H e₀ e₁ (passed ps) bs own in
+                let at-lent =
+                rest-stands 𝓤 H e₀ e₁ (passed ps) bs own 3 (lends ps) ts (below-one 𝓤 H (T′.mir, lc) _ 2 (lends ps) ts (
+                below-one 𝓤 H (S′.mir, ln) _ 1 (lends ps) ts (below-one 𝓤 H (tyRef erased mut τ, lr) _ 0 (lends ps) ts (
+                at-front 𝓤 H (lends ps) ts end)))) in
+                alloc0 ! $ params1 ! $ pass1 ! (init ! 10 refl (typed h _ was .0)) $ move ! (9 ∷ []) $
+                pass-all ! (passed ps) bs own (passed-fit ps) (
+                -- [the row; room for the copy; …; room to lend it; for the reference; …; for the next place; …; for the count; …; c; …; room
+                -- for the result; …; P]
+                assigns ! (of-opd ! (load ! (from ! (stop !)) (look ! 10 refl))) (from-at ! count (stop !)) (init ! 8 refl (typed h _ was .0)) $
+                assigns ! (addr ! (from-at ! count (stop !))) (from-at ! ref (stop !)) (init ! 4 refl (tt, tt)) $
+                move ! (0 ∷ 3 ∷ []) $ relent-all ! 2 (own-local ps 3) ps bs ts at-row at-lent (
+                -- the local is lent for a new lifetime
+                move ! (8 ∷ []) $ use1 W (‵ (partAt T.the-row fullShare h lc 0)) (into 𝓤 H A W lc 0 h was) $
+                lft-new ! tt (λ ν. move ! (1 ∷ []) $
+                use1 W (later (some (λ (δ : GName). ‵ (MutRef (named 0) (ν ∷ []) T.the-row .own (lent-at lc δ) (vptr lc 0 ∷ [])) ⊛
+                ‵ (flent (ν ∷ []) (Borrowed (mem T.the-row) lc 0 δ))))) (lends-ref 𝓤 H A W T.the-row (named 0) (ν ∷ []) h lc 0) $
+                await ! tt $ pick ! (λ δ. split ! $ move ! (0 ∷ 16 ∷ []) $ join ! $ move ! (2 ∷ 0 ∷ []) $ join ! $
+                -- [what f asks; the lender's part; the row; what it is lent through; room for the copy; …; the reference; …; and so on]
+                calls-from ! fm (‵ (flft (ν ∷ []) fullShare) ⊛
+                (‵ (MutRef (named 0) (ν ∷ []) T.the-row .own (lent-at lc δ) (vptr lc 0 ∷ [])) ⊛ raw P))
+                (vptr lc 0 ∷ values (passed ps)) (Answer ν δ) (met ν lc δ)
+                (and-then ! (load ! (from-at ! ref (stop !)) (look ! 6 refl)) (handed-all ! 2 (own-local ps 3) ps bs ts at-row at-lent
+                (all-read (passed ps) bs (takes ! 2 refl)) (all-read (lends ps) ts (takes ! 3 refl)))) (λ w.
+                use1 W (later (some (λ (r : Spot). ((‵ (flft (ν ∷ []) fullShare) ⊛ raw X) ⊛ ‵ (S.the-row .own r (w ∷ []))) ⊛
+                some (λ (zs : SaveCount × Z). ‵ (fsep (fres δ (T.the-row .coded .code (zs .0))) (L zs)) ⊛ raw (N r zs))))) (id⊢ 𝓤 _) $
+                await ! tt $ pick ! (λ r. split ! $ move ! (1 ∷ []) $ pick ! (λ zs. split ! $ fsplit ! $ move ! (3 ∷ []) $ split ! $ split ! $
+                move ! (2 ∷ []) $ peeks ! S.the-row (Is S.the-row) (shows 𝓤 H A S.the-row) r (w ∷ []) (λ is.
+                -- [what the result owns; the token; X; the last value; L; N; the lender's part; the row; what it is lent through; and so on]
+                land ! (from-at ! next (stop !)) (init ! 13 refl (LL.lawful S.the-type S′.the-laws 𝓤 H A W .typed r _ is .0)) $
+                rewrite ! 13 (λ (u : Val). ‵ (fat fullShare S′.mir ln 0 u)) (ap only (LL.tells S.the-type S′.the-laws r (w ∷ []) is)) refl $
+                rewrite ! 0 (λ (u : Val). ‵ (S.the-row .own r (u ∷ []))) (ap only (LL.tells S.the-type S′.the-laws r (w ∷ []) is)) refl $
+                peeks ! S.the-row (Is S.the-row) (shows 𝓤 H A S.the-row) r (S′.lowered r ∷ []) (λ there. drop ! $
+                -- the lifetime is ended, and the local is back at the last value
+                lft-end ! tt $ move ! (0 ∷ 5 ∷ 2 ∷ []) $
+                use3 W (later (‵ (partAt T.the-row fullShare (zs .0) lc 0))) (ref-back 𝓤 H A W T.the-row (ν ∷ []) δ (zs .0) lc 0) $
+                await ! tt $
+                use1 W (‵ (fat fullShare T′.mir lc 0 (T′.lowered (zs .0))) ⊛ ‵ (T.the-row .own (zs .0) (T′.lowered (zs .0) ∷ [])))
+                (out-of 𝓤 H A W lc 0 (zs .0)) $ split ! $ move ! (1 ∷ []) $
+                peeks ! T.the-row (Is T.the-row) (shows 𝓤 H A T.the-row) (zs .0) (T′.lowered (zs .0) ∷ []) (λ is′. move ! (1 ∷ 0 ∷ []) $
+                -- [the count; what it owns; X; L; N; the row; what it is lent through; room for the copy; …; the reference; …; and so on]
+                assigns ! (of-opd ! (load ! (from-at ! count (stop !)) (look ! 0 refl))) (from-at ! last (stop !))
+                (init ! 7 refl (typed (zs .0) _ is′ .0)) $
+                assigns ! (agg ! (and-then ! (load ! (from-at ! next (stop !)) (look ! 11 refl)) (and-then !
+                (load ! (from-at ! last (stop !)) (look ! 7 refl)) (no-more !)))) (from ! (stop !))
+                (init ! 16 refl (LL.lawful D.the-type D′.the-laws 𝓤 H A W .typed (behind r (zs .0)) _ (made r (zs .0) there is′) .0)) $
+                returns ! (look ! 16 refl) $ forget ! 0 refl $ forget ! 7 refl $ forget ! 9 refl $ forget ! 11 refl $ forget ! 14 refl $
+                forget ! 16 refl $
+                move ! (16 ∷ 17 ∷ []) $ free1 ! $ move ! (14 ∷ 15 ∷ []) $ free1 ! $ move ! (5 ∷ []) $ free-all ! (passed ps) bs (
+                move ! (0 ∷ 12 ∷ []) $ free1 ! $ move ! (9 ∷ 10 ∷ []) $ free1 ! $ move ! (7 ∷ 8 ∷ []) $ free1 ! $
+                move ! (4 ∷ []) $ free-all ! (lends ps) ts (move ! (4 ∷ 5 ∷ []) $ free1 ! $ free0 ! $
+                owned ! D.the-row (Is D.the-row) (LL.makes D.the-type D′.the-plain 𝓤 H A) (behind r (zs .0)) _ (made r (zs .0) there is′) $
+                keep ! (2 ∷ 3 ∷ 4 ∷ 0 ∷ []) $ by ! (ends r zs)))))))))))))))))))))
