@@ -30,7 +30,9 @@ use denote.Ref.{ptr, now}
 use denote.Slice.{ShrSlice, MutSlice, sliceTy, sliceVal, slice-vals, shr-slice-tells, mut-slice-tells}
 use denote.Exit.{Kept, left}
 use denote.Signature.{Slot, typesAt}
+use denote.Struct.Declared.{Declared, shape, row as row-of}
 use denote.Struct.Laws as LL
+use denote.Struct.Struct.{layout}
 use denote.Triple.Clauses.{Ended, Clauses, closing}
 use denote.Triple.End.{Kepts, Fins}
 use denote.Triple.Spec.{tripleOf}
@@ -118,7 +120,7 @@ pars-of (exclusive R ∷ ks) i κs x are =
 pars-of (value v ∷ ks) i κs x are = copied (v .mir) (v .lowered (x .0)) (v .typed (x .0) (are .0)) ∷ pars-of ks i κs (x .1) (are .1)
 
 module _ {M : Type 1} (𝓤 : URA M) (H : Heap 𝓤) (A : Atoms 𝓤) (W : Given 𝓤 H A) where
-  abbrev word : Width → Kind
+  abbrev pub word : Width → Kind
   word w = value (record {
     type = UInt w;
     mir = tyInt w;
@@ -127,19 +129,20 @@ module _ {M : Type 1} (𝓤 : URA M) (H : Heap 𝓤) (A : Atoms 𝓤) (W : Given
     typed = λ x is. uint-lawful 𝓤 H A W w .typed x _ is .0;
   })
 
-  abbrev spot : Kind
-  spot = value (record {
-    type = S.the-row;
-    mir = S′.mir;
-    lowered = S′.lowered;
-    tells = LL.tells S.the-type S′.the-laws;
-    typed = λ x is. LL.lawful S.the-type S′.the-laws 𝓤 H A W .typed x _ is .0;
+  abbrev pub struct : (T : Declared) → LL.Laws T → Kind
+  struct T L = value (record {
+    type = row-of T;
+    mir = layout (shape T);
+    lowered = LL.val T L;
+    tells = LL.tells T L;
+    typed = λ x is. LL.lawful T L 𝓤 H A W .typed x _ is .0;
   })
 
   -- s, types, heads, nums, names, out, w, n, args and the place of the block
   abbrev pub row : List Kind
   row =
-      shared u8 ∷ shared u8 ∷ exclusive u64 ∷ exclusive u64 ∷ exclusive u16 ∷ exclusive u8 ∷ word w64 ∷ word w16 ∷ word w16 ∷ spot ∷ []
+      shared u8 ∷ shared u8 ∷ exclusive u64 ∷ exclusive u64 ∷ exclusive u16 ∷ exclusive u8 ∷ word w64 ∷ word w16 ∷ word w16 ∷
+      struct S.the-type S′.the-laws ∷ []
 
 -- ---- from a walk to the contract: the function k of the environment γ, whose MIR is `code`; it calls f, which is γ's routine s
 module _

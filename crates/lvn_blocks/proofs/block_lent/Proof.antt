@@ -142,7 +142,7 @@ unfolding code.routine
 block-lent-spec 𝓤 H 𝓜 𝓖 𝓡 =
     by-walk 𝓤 H 𝓜 𝓖 𝓡 self.ended stayed (self.clauses 𝓤 H (𝓖 .A) (𝓜 .mem) (𝓡 .run)) code.env key.name callee-def.name code.function
     (λ W. (
-      goes-ref 𝓤 H (𝓖 .A) W 7 0 tt (plain (λ _. T.the-row)),
+      goes-ref 𝓤 H (𝓖 .A) W (self.signature .lifetimes) 0 tt (plain (λ _. T.the-row)),
       all-go 𝓤 H (𝓖 .A) W (others (self.signature .params)) (self.ended .kept .1),
     ))
     (code.unfolded 𝓤 H 𝓜 𝓡) callee-def.routine code.calls-lvn-blocks·block-counted (Callee 𝓤 H (𝓖 .A) (𝓜 .mem) (𝓡 .run))
