@@ -7,8 +7,10 @@ mod cut;
 mod damage;
 mod function;
 mod generate;
+mod handport;
 mod one;
 mod rng;
+mod rows;
 mod second;
 mod small;
 
