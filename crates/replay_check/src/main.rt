@@ -8,14 +8,8 @@ use replay_lines::Line;
 // Whether check answered with this number and offset.
 pub fn checked_so(c: Checked, number: u64, offset: u64) -> bool {
     match c {
-        Checked::Accepted => number == 0,
-        Checked::Refused(k, o) => {
-            if checker::number_of(k) as u64 == number {
-                o as u64 == offset
-            } else {
-                false
-            }
-        }
+        Checked::Accepted => number == 0 && offset == 0,
+        Checked::Refused(k, o) => checker::number_of(k) as u64 == number && o as u64 == offset,
     }
 }
 
