@@ -1,5 +1,5 @@
 """Puts C13 to C16 and the stored rewritings into the list that the program
-cases replays: a line holds a record, 0, its saves and its rewriting, or a
+replay_rewrite replays: a line holds a record, 0, its saves and its rewriting, or a
 record and the number and offset of its refusal.
 
 Usage: cases.py > crates/replay_rewrite/stdin

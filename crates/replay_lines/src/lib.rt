@@ -1,6 +1,11 @@
-// Lines of text: records in hexadecimal and decimal numbers, for the programs that replay stored lists.
-ghost use Prim.Native.Nat.{_≤_, _<_};
+// What the programs that replay a stored list share: records in hexadecimal and decimal numbers, read from lines of text, and the count of
+// the lines that agree.
+use libc::STDOUT_FILENO;
+ghost use Prim.Native.Nat.{_≤_, _<_, _+_};
 ghost use lib.ListN.{length};
+
+// The length of the longest list, in bytes.
+pub const LONGEST: usize = 524288;
 
 // Where reading goes on, and how many bytes were made.
 pub struct Part {
@@ -14,8 +19,21 @@ pub struct Decimal {
     pub value: u64,
 }
 
+// Where the next line begins, and whether all answers to this one agreed.
+pub struct Line {
+    pub next: usize,
+    pub same: bool,
+}
+
+// Where the next line begins, and how many before it agreed and how many did not.
+pub struct Counts {
+    pub at: usize,
+    pub same: u64,
+    pub other: u64,
+}
+
 // The value of a hexadecimal digit in small letters; 16 for any other byte.
-pub fn digit(c: u8) -> u8
+pub fn hex_digit(c: u8) -> u8
     ensures { λ r. ⌜ r ≤ 16 ⌝ }
 {
     if c < 48 {
@@ -46,8 +64,8 @@ pub fn decode(text: &[u8], at: usize, out: &mut [u8]) -> Part
         if text.len() - p < 2 {
             return Part { next: p, len: n };
         }
-        let high = digit(text[p]);
-        let low = digit(text[p + 1]);
+        let high = hex_digit(text[p]);
+        let low = hex_digit(text[p + 1]);
         if high > 15 {
             return Part { next: p, len: n };
         }
@@ -61,33 +79,6 @@ pub fn decode(text: &[u8], at: usize, out: &mut [u8]) -> Part
     Part { next: p, len: n }
 }
 
-// The decimal number at `at`, its last nine digits where it is longer.
-pub fn number(text: &[u8], at: usize) -> Decimal {
-    let mut p = at;
-    let mut value = 0;
-    while p < text.len() {
-        let c = text[p];
-        if c < 48 {
-            return Decimal {
-                next: p,
-                value: value,
-            };
-        }
-        if c > 57 {
-            return Decimal {
-                next: p,
-                value: value,
-            };
-        }
-        value = (value * 10 + ((c - 48) as u64)) % 1000000000;
-        p += 1;
-    }
-    Decimal {
-        next: p,
-        value: value,
-    }
-}
-
 // The place behind the byte `c` at `at`, or `at` where another stands there.
 pub fn skip(text: &[u8], at: usize, c: u8) -> usize {
     if at < text.len() {
@@ -96,4 +87,69 @@ pub fn skip(text: &[u8], at: usize, c: u8) -> usize {
         }
     }
     at
+}
+
+// The decimal number at `at`, or behind a space there; its last nine digits where it is longer.
+pub fn number(text: &[u8], at: usize) -> Decimal {
+    let mut p = skip(text, at, b' ');
+    let mut value = 0;
+    while p < text.len() {
+        let c = text[p];
+        if c < 48 {
+            return Decimal { next: p, value };
+        }
+        if c > 57 {
+            return Decimal { next: p, value };
+        }
+        value = (value * 10 + ((c - 48) as u64)) % 1000000000;
+        p += 1;
+    }
+    Decimal { next: p, value }
+}
+
+// Before the first line.
+pub fn no_counts() -> Counts
+    ensures { λ r. ⌜ r .same + r .other ≤ r .at ⌝ }
+{
+    Counts {
+        at: 0,
+        same: 0,
+        other: 0,
+    }
+}
+
+// With one more line, in a text of `end` bytes; a line that cannot be read differs, and ends the list.
+pub fn counted(counts: Counts, line: Line, end: usize) -> Counts
+    requires { ⌜ (counts .same + counts .other ≤ counts .at) × (counts .at < end) ⌝ }
+    ensures { λ r. ⌜ (r .same + r .other ≤ r .at) × (counts .at < r .at) ⌝ }
+{
+    let same = counts.same;
+    let other = counts.other;
+    if line.next <= counts.at {
+        return Counts {
+            at: end,
+            same,
+            other: other + 1,
+        };
+    }
+    if line.same {
+        return Counts {
+            at: line.next,
+            same: same + 1,
+            other,
+        };
+    }
+    Counts {
+        at: line.next,
+        same,
+        other: other + 1,
+    }
+}
+
+// Writes the counts to standard output.
+pub fn print_counts(counts: Counts) {
+    io::print_decimal(STDOUT_FILENO, counts.same);
+    io::write_all(STDOUT_FILENO, b" agree, ");
+    io::print_decimal(STDOUT_FILENO, counts.other);
+    io::write_all(STDOUT_FILENO, b" differ\n");
 }

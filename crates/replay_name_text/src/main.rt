@@ -2,20 +2,10 @@
 // number and offset of the refusal, 0 0 for a text; 0 for a part of the input or 1 for one of the rewriting, its start, its length and its
 // bytes. Writes for how many lines name text tells so, and for how many not.
 use libc::STDIN_FILENO;
-use libc::STDOUT_FILENO;
 use name_text::Found;
 use numbering::Named;
-
-// Where the next line begins, and whether all that is told agreed.
-pub struct Line {
-    pub next: usize,
-    pub same: bool,
-}
-
-pub struct Counts {
-    pub same: u64,
-    pub other: u64,
-}
+use replay_lines::Counts;
+use replay_lines::Line;
 
 // What a line says of the answer and of the part, and where its bytes begin.
 pub struct Told {
@@ -27,8 +17,8 @@ pub struct Told {
     pub next: usize,
 }
 
-// Whether an answer has this number and offset.
-pub fn answers(a: Named, number: u64, offset: u64) -> bool {
+// Whether name text answered with this number and offset.
+pub fn named_so(a: Named, number: u64, offset: u64) -> bool {
     match a {
         Named::Text => number == 0 && offset == 0,
         Named::Refused(k, o) => checker::number_of(k) as u64 == number && o as u64 == offset,
@@ -37,7 +27,7 @@ pub fn answers(a: Named, number: u64, offset: u64) -> bool {
 }
 
 // Whether a part lies where the line says.
-pub fn lies(f: Found, told: Told) -> bool {
+pub fn lies_as_told(f: Found, told: Told) -> bool {
     if f.rewriting != (told.rewriting == 1) {
         return false;
     }
@@ -60,7 +50,7 @@ pub fn same_bytes(a: &[u8], b: &[u8]) -> bool {
 }
 
 // Whether all of name text tells so: the part and its answer, the answer alone, and the bytes.
-pub fn all_agree<'a>(
+pub fn told_alike<'a>(
     input: &'a [u8],
     rewriting: &'a [u8],
     index: usize,
@@ -69,13 +59,13 @@ pub fn all_agree<'a>(
 ) -> bool {
     let f = name_text::part_of(input, rewriting, index);
     let answer = f.answer;
-    if !lies(f, told) {
+    if !lies_as_told(f, told) {
         return false;
     }
-    if !answers(answer, told.number, told.offset) {
+    if !named_so(answer, told.number, told.offset) {
         return false;
     }
-    if !answers(
+    if !named_so(
         name_text::name_answer(input, rewriting, index),
         told.number,
         told.offset,
@@ -87,11 +77,11 @@ pub fn all_agree<'a>(
 
 // The five numbers of a line behind its index.
 pub fn told_at(text: &[u8], at: usize) -> Told {
-    let number = replay_lines::number(text, replay_lines::skip(text, at, b' '));
-    let offset = replay_lines::number(text, replay_lines::skip(text, number.next, b' '));
-    let rewriting = replay_lines::number(text, replay_lines::skip(text, offset.next, b' '));
-    let from = replay_lines::number(text, replay_lines::skip(text, rewriting.next, b' '));
-    let count = replay_lines::number(text, replay_lines::skip(text, from.next, b' '));
+    let number = replay_lines::number(text, at);
+    let offset = replay_lines::number(text, number.next);
+    let rewriting = replay_lines::number(text, offset.next);
+    let from = replay_lines::number(text, rewriting.next);
+    let count = replay_lines::number(text, from.next);
     Told {
         number: number.value,
         offset: offset.value,
@@ -102,8 +92,8 @@ pub fn told_at(text: &[u8], at: usize) -> Told {
     }
 }
 
-// The line at a place.
-pub fn line_at(text: &[u8], at: usize) -> Line {
+// The line at a place, and whether name text tells what it says.
+pub fn name_text_line(text: &[u8], at: usize) -> Line {
     let mut input = [0u8; 4096];
     let mut rewriting = [0u8; 8192];
     let mut bytes = [0u8; 256];
@@ -113,7 +103,7 @@ pub fn line_at(text: &[u8], at: usize) -> Line {
         replay_lines::skip(text, first.next, b' '),
         &mut rewriting,
     );
-    let index = replay_lines::number(text, replay_lines::skip(text, second.next, b' '));
+    let index = replay_lines::number(text, second.next);
     let told = told_at(text, index.next);
     let third = replay_lines::decode(text, told.next, &mut bytes);
     let n = first.len;
@@ -121,7 +111,7 @@ pub fn line_at(text: &[u8], at: usize) -> Line {
     let k = third.len;
     Line {
         next: replay_lines::skip(text, third.next, b'\n'),
-        same: all_agree(
+        same: told_alike(
             &input[..n],
             &rewriting[..m],
             index.value as usize,
@@ -131,38 +121,17 @@ pub fn line_at(text: &[u8], at: usize) -> Line {
     }
 }
 
-// All lines; one that cannot be read counts as one that differs, and ends the list.
+// All lines.
 pub fn replay(text: &[u8]) -> Counts {
-    let mut at = 0;
-    let mut same: u64 = 0;
-    let mut other: u64 = 0;
-    while at < text.len() {
-        let line = line_at(text, at);
-        if line.next <= at {
-            return Counts {
-                same: same,
-                other: other + 1,
-            };
-        }
-        if line.same {
-            same += 1;
-        } else {
-            other += 1;
-        }
-        at = line.next;
+    let mut counts = replay_lines::no_counts();
+    while counts.at < text.len() {
+        counts = replay_lines::counted(counts, name_text_line(text, counts.at), text.len());
     }
-    Counts {
-        same: same,
-        other: other,
-    }
+    counts
 }
 
 fn main() {
-    let mut text = [0u8; 524288];
+    let mut text = [0u8; replay_lines::LONGEST];
     let n = io::read_full(STDIN_FILENO, &mut text);
-    let counts = replay(&text[..n]);
-    io::print_decimal(STDOUT_FILENO, counts.same);
-    io::write_all(STDOUT_FILENO, b" agree, ");
-    io::print_decimal(STDOUT_FILENO, counts.other);
-    io::write_all(STDOUT_FILENO, b" differ\n");
+    replay_lines::print_counts(replay(&text[..n]));
 }

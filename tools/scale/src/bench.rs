@@ -1,88 +1,13 @@
-//! Times rewrite and the Rust's `lvn`, alone and with decoding and encoding, on
+//! Times check and rewrite, the Rust's `lvn`, alone and with decoding and encoding, and the hand port where it is there, on
 //! the same records in one run.
 
-use crate::function::{encode, Function, Instr, INT};
-use crate::generate::{Generator, Size};
-use crate::one::hex;
-use crate::rng::Rng;
-use oracle::{reader, writer, Answer};
+use crate::handport::{hand_port, HandPort};
+use crate::one::{self, hex, Guarded};
+use crate::rows::{rows, Row};
+use lvn::{Unwritten, Written};
+use oracle::{reader, writer};
 use std::hint::black_box;
 use std::time::{Duration, Instant};
-
-struct Case {
-    name: String,
-    records: Vec<Vec<u8>>,
-    /// Instructions of all records.
-    instructions: usize,
-}
-
-impl Case {
-    fn new(name: &str, functions: &[Function]) -> Case {
-        Case {
-            name: name.to_string(),
-            records: functions.iter().map(encode).collect(),
-            instructions: functions.iter().flat_map(|f| &f.blocks).map(Vec::len).sum(),
-        }
-    }
-}
-
-/// Names of distinct texts of a length of 4 or more.
-fn names(count: usize, length: usize) -> Vec<(u8, Vec<u8>)> {
-    (0..count).map(|n| (INT, format!("n{n:03}{}", "x".repeat(length - 4)).into_bytes())).collect()
-}
-
-fn add(id: usize, dest: u16, args: [u16; 2]) -> Instr {
-    Instr { id: id as u32, code: 1, dest, args: args.to_vec(), ..Instr::default() }
-}
-
-/// Document 01's C1.
-fn c1() -> Function {
-    let names = ["a", "b", "x"].map(|text| (INT, text.as_bytes().to_vec())).to_vec();
-    Function { args: 2, names, blocks: vec![vec![add(7, 2, [0, 1]), add(8, 2, [1, 0])]] }
-}
-
-/// Two blocks of 256 sums, each over the home of its number: 512 saves.
-fn saves() -> Function {
-    let names = ["a", "x"].map(|text| (INT, text.as_bytes().to_vec())).to_vec();
-    let block: Vec<Instr> = (0..256).map(|n| add(n, 1, [1, 0])).collect();
-    Function { args: 2, names, blocks: vec![block.clone(), block] }
-}
-
-/// Blocks of sums, differences and products of random names, which have so many bytes of text.
-fn random_ints(rng: &mut Rng, args: u8, count: usize, text: usize, blocks: usize, n: usize) -> Function {
-    let mut block = || {
-        let mut name = || rng.below(count) as u16;
-        let mut sums: Vec<Instr> = (0..n).map(|id| add(id, name(), [name(), name()])).collect();
-        for i in &mut sums {
-            i.code = rng.pick(&[1, 1, 2, 3]);
-        }
-        sums
-    };
-    let blocks = (0..blocks).map(|_| block()).collect();
-    Function { args, names: names(count, text), blocks }
-}
-
-fn cases(seed: u64) -> Vec<Case> {
-    let mut rng = Rng::new(seed);
-    let mut generator = Generator::new(seed);
-    let small = Size { names: 6, args: 2, blocks: 2, body: 8, full: false };
-    let many: Vec<Function> = (0..2000)
-        .map(|_| generator.of_size(&small))
-        .filter(|f| matches!(oracle::rewrite(&encode(f)), Answer::Rewriting(_)))
-        .collect();
-    let mut all = vec![
-        Case::new("C1", &[c1()]),
-        Case::new("512 saves", &[saves()]),
-        Case::new("64 blocks of 256", &[random_ints(&mut rng, 2, 64, 8, 64, 256)]),
-        Case::new("256 names", &[random_ints(&mut rng, 2, 256, 32, 1, 256)]),
-        Case::new("many small", &many),
-    ];
-    // Over arguments alone, so that nearly every instruction makes a save, whatever n is.
-    for n in [16, 32, 64, 128, 256] {
-        all.push(Case::new(&format!("16 blocks of {n}"), &[random_ints(&mut rng, 16, 16, 8, 16, n)]));
-    }
-    all
-}
 
 #[repr(C)]
 struct Timespec {
@@ -113,28 +38,28 @@ fn middle(seconds: u64, mut turn: impl FnMut() -> i64) -> f64 {
     all[all.len() / 2] as f64
 }
 
-/// How often a case is repeated between two looks at the clock.
-fn repeats(case: &Case) -> usize {
-    (2000 / case.instructions).max(1)
+/// How often a row is repeated between two looks at the clock.
+fn repeats(row: &Row) -> usize {
+    (32_000 / row.records.iter().map(Vec::len).sum::<usize>()).max(1)
 }
 
-/// The middle time of a call over all records.
-fn rounds(case: &Case, seconds: u64, mut call: impl FnMut(&[u8])) -> f64 {
-    let repeats = repeats(case);
-    let round = |call: &mut dyn FnMut(&[u8])| {
+/// The middle time of a call over all records of a row, for one record.
+fn rounds(row: &Row, seconds: u64, mut call: impl FnMut(usize, &[u8])) -> f64 {
+    let repeats = repeats(row);
+    let turn = || {
         let start = now();
         for _ in 0..repeats {
-            case.records.iter().for_each(|r| call(black_box(r)));
+            row.records.iter().enumerate().for_each(|(n, r)| call(n, black_box(r)));
         }
         now() - start
     };
-    middle(seconds, || round(&mut call)) / repeats as f64
+    middle(seconds, turn) / (repeats * row.records.len()) as f64
 }
 
 /// The Rust's pass alone: what it takes is made ready before the time starts.
-fn rust_alone(case: &Case, seconds: u64) -> f64 {
-    let repeats = repeats(case);
-    let mut decoded: Vec<_> = case.records.iter().map(|r| reader::read(r).unwrap()).collect();
+fn rust_alone(row: &Row, seconds: u64) -> f64 {
+    let repeats = repeats(row);
+    let mut decoded: Vec<_> = row.records.iter().map(|r| reader::read(r).unwrap()).collect();
     let ready: Vec<_> = decoded.iter_mut().map(oracle::graph).collect();
     let turn = || {
         let mut work: Vec<_> = (0..repeats).flat_map(|_| ready.iter().cloned().zip(&decoded)).collect();
@@ -145,7 +70,7 @@ fn rust_alone(case: &Case, seconds: u64) -> f64 {
         black_box(done);
         time
     };
-    middle(seconds, turn) / repeats as f64
+    middle(seconds, turn) / (repeats * row.records.len()) as f64
 }
 
 fn rust_whole(bytes: &[u8]) -> Vec<u8> {
@@ -155,54 +80,178 @@ fn rust_whole(bytes: &[u8]) -> Vec<u8> {
     writer::write(&record).unwrap()
 }
 
-/// Whether both write the same bytes.
-fn agree(case: &Case) -> bool {
-    let differs = |r: &&Vec<u8>| lvn::rewriting(r).map(|w| w.0) != Ok(rust_whole(r));
-    match case.records.iter().find(differs) {
-        Some(record) => println!("{}: differs on\n{}", case.name, hex(record)),
-        None => return true,
-    }
-    false
+/// How many bytes an output has.
+#[derive(Clone, Copy)]
+enum Output {
+    /// Seven for each of the input, which always suffice: the blocks are numbered once.
+    Ample,
+    /// As many as are needed: the blocks are numbered twice.
+    Exact,
+    /// One too few: refusal 9.
+    Short,
 }
 
-/// Times all cases; whether both sides write the same.
-pub fn run(seed: u64, seconds: u64) -> bool {
-    println!("ns per record and per instruction; the Rust alone, and with decoding and encoding");
-    println!("| record | bytes | instructions | check | rewrite | per instr. | Rust | per instr. | ratio | Rust, bytes to bytes | ratio |");
-    println!("|---|---|---|---|---|---|---|---|---|---|---|");
-    let mut growth = vec![];
-    for case in cases(seed) {
-        if !agree(&case) {
-            return false;
+impl Output {
+    fn size(self, record: usize, needed: usize) -> usize {
+        match self {
+            Output::Ample => 7 * record,
+            Output::Exact => needed,
+            Output::Short => needed - 1,
         }
-        let mut out = vec![0; 1 << 21];
-        let check = rounds(&case, seconds, |r| {
+    }
+
+    fn behind_name(self) -> &'static str {
+        match self {
+            Output::Ample => "",
+            Output::Exact => ", exact output",
+            Output::Short => ", too short",
+        }
+    }
+}
+
+/// Whether the hand port answers and writes as the Rust does, whose rewriting this is.
+fn hand_port_agrees(hand: &HandPort, record: &[u8], rewriting: &[u8], saves: usize) -> bool {
+    let needed = rewriting.len();
+    [Output::Ample, Output::Exact, Output::Short].into_iter().all(|output| {
+        let mut out = vec![0xA5; output.size(record.len(), needed)];
+        let answer = (hand.rewrite)(record, &mut out);
+        match output {
+            Output::Short => answer == Err(Unwritten::Room(needed)) && out.iter().all(|b| *b == 0xA5),
+            _ => answer == Ok(Written { bytes: needed, saves }) && out[..needed] == *rewriting,
+        }
+    }) && (hand.check)(record).is_ok()
+}
+
+/// The bytes that each record of a row needs, if all sides answer and write the same.
+fn needed(row: &Row, hand: Option<&HandPort>) -> Result<Vec<usize>, String> {
+    let mut guarded = Guarded::new();
+    let of_one = |record: &Vec<u8>| {
+        let differs = |what: &str| format!("{}: {what}\n{}", row.name, hex(record));
+        match one::compare(record, &mut guarded).map_err(|e| differs(&e))? {
+            one::Same::Rewritten(bytes, saves) => match hand {
+                Some(hand) if !hand_port_agrees(hand, record, &rust_whole(record), saves) => {
+                    Err(differs("the hand port differs"))
+                }
+                _ => Ok(bytes),
+            },
+            _ => Err(differs("not rewritten by the Rust")),
+        }
+    };
+    row.records.iter().map(of_one).collect()
+}
+
+/// The time of rewrite, the library's or the hand port's, with such outputs.
+fn rewriting_time(
+    row: &Row,
+    seconds: u64,
+    sizes: &[usize],
+    rewrite: impl Fn(&[u8], &mut [u8]) -> Result<Written, Unwritten>,
+) -> f64 {
+    let mut out = vec![0; sizes.iter().copied().max().unwrap_or(0)];
+    rounds(row, seconds, |n, record| {
+        black_box(rewrite(record, &mut out[..sizes[n]]).is_ok());
+    })
+}
+
+/// Times of a row that are the same for all outputs, ns for a record.
+struct Times {
+    check: f64,
+    rust: f64,
+    rust_whole: f64,
+    hand_check: Option<f64>,
+}
+
+/// A line of the table.
+fn line(cells: &[String]) {
+    println!("| {} |", cells.join(" | "));
+}
+
+fn head(with_hand_port: bool) {
+    println!("ns for a record and for an instruction; a ratio is the other's time over ours");
+    let ours = "record, bytes, instructions, check, rewrite, per instr.";
+    let rust = "Rust, per instr., ratio, Rust bytes to bytes, ratio";
+    let hand = if with_hand_port { ", hand port's check, ratio, its rewrite, ratio" } else { "" };
+    let cells: Vec<String> = format!("{ours}, {rust}{hand}").split(", ").map(str::to_string).collect();
+    line(&cells);
+    println!("|{}", "---|".repeat(cells.len()));
+}
+
+/// Times rewrite with such an output and prints the line; our time for a record.
+fn print_line(
+    row: &Row,
+    seconds: u64,
+    needed: &[usize],
+    output: Output,
+    times: &Times,
+    hand: Option<&HandPort>,
+) -> f64 {
+    let sizes: Vec<usize> = row.records.iter().zip(needed).map(|(r, n)| output.size(r.len(), *n)).collect();
+    let ours = rewriting_time(row, seconds, &sizes, lvn::rewrite);
+    let records = row.records.len() as f64;
+    let instructions = row.instructions as f64 / records;
+    let whole = |x: f64| format!("{x:.0}");
+    let ratio = |x: f64| if x < 0.1 { format!("{x:.4}") } else { format!("{x:.2}") };
+    let each = |x: f64| if row.instructions == 0 { "-".to_string() } else { format!("{:.1}", x / instructions) };
+    let mut cells = vec![
+        format!("{}{}", row.name, output.behind_name()),
+        whole(row.records.iter().map(Vec::len).sum::<usize>() as f64 / records),
+        whole(instructions),
+        whole(times.check),
+        whole(ours),
+        each(ours),
+        whole(times.rust),
+        each(times.rust),
+        ratio(times.rust / ours),
+        whole(times.rust_whole),
+        ratio(times.rust_whole / ours),
+    ];
+    if let (Some(hand), Some(check)) = (hand, times.hand_check) {
+        let rewrite = rewriting_time(row, seconds, &sizes, hand.rewrite);
+        cells.extend([whole(check), ratio(check / times.check), whole(rewrite), ratio(rewrite / ours)]);
+    }
+    line(&cells);
+    ours
+}
+
+fn times(row: &Row, seconds: u64, hand: Option<&HandPort>) -> Times {
+    Times {
+        check: rounds(row, seconds, |_, r| {
             black_box(lvn::check(r).is_ok());
-        });
-        let ours = rounds(&case, seconds, |r| {
-            black_box(lvn::rewrite(r, &mut out).is_ok());
-        });
-        let alone = rust_alone(&case, seconds);
-        let whole = rounds(&case, seconds, |r| {
+        }),
+        rust: rust_alone(row, seconds),
+        rust_whole: rounds(row, seconds, |_, r| {
             black_box(rust_whole(r));
-        });
-        let (records, instrs) = (case.records.len() as f64, case.instructions as f64);
-        println!(
-            "| {} | {:.0} | {:.0} | {:.0} | {:.0} | {:.1} | {:.0} | {:.1} | {:.1} | {:.0} | {:.1} |",
-            case.name,
-            case.records.iter().map(Vec::len).sum::<usize>() as f64 / records,
-            instrs / records,
-            check / records,
-            ours / records,
-            ours / instrs,
-            alone / records,
-            alone / instrs,
-            alone / ours,
-            whole / records,
-            whole / ours
-        );
-        if case.name.starts_with("16 blocks") {
-            growth.push((ours / instrs, alone / instrs));
+        }),
+        hand_check: hand.map(|hand| {
+            rounds(row, seconds, |_, r| {
+                black_box((hand.check)(r).is_ok());
+            })
+        }),
+    }
+}
+
+/// Times all rows; whether all sides write the same.
+pub fn run(seed: u64, seconds: u64) -> bool {
+    let hand = hand_port();
+    let hand = hand.as_ref();
+    head(hand.is_some());
+    let mut growth = vec![];
+    for row in rows(seed) {
+        let needed = match needed(&row, hand) {
+            Ok(needed) => needed,
+            Err(what) => {
+                println!("{what}");
+                return false;
+            }
+        };
+        let times = times(&row, seconds, hand);
+        let ours = print_line(&row, seconds, &needed, Output::Ample, &times, hand);
+        if row.tight {
+            print_line(&row, seconds, &needed, Output::Exact, &times, hand);
+            print_line(&row, seconds, &needed, Output::Short, &times, hand);
+        }
+        if row.name.starts_with("16 blocks") {
+            growth.push((ours / row.instructions as f64, times.rust / row.instructions as f64));
         }
     }
     let (first, last) = (growth[0], growth[growth.len() - 1]);

@@ -1,5 +1,5 @@
 //! Holds the static library to the unchanged Rust and to a second reading of
-//! document 01, on generated records; and times it beside the Rust.
+//! document 01, on generated records; and times it beside the Rust and the hand port.
 
 mod bench;
 mod compare;
@@ -7,8 +7,10 @@ mod cut;
 mod damage;
 mod function;
 mod generate;
+mod handport;
 mod one;
 mod rng;
+mod rows;
 mod second;
 mod small;
 
@@ -18,7 +20,7 @@ use std::{env, panic, process::ExitCode};
 const USAGE: &str = "usage:
   scale compare [--seed S] [--count N | --seconds T]   compares generated records: N functions, or T seconds (60)
   scale one                                            compares the records on standard input, one in hex per line
-  scale bench [--seed S] [--seconds T]                 times rewrite beside the Rust: T seconds (1) for each figure
+  scale bench [--seed S] [--seconds T]                 times rewrite beside others: T seconds (1) for each figure
 S is 1 if not given. The status is 0 if all is the same, 1 if something differs, 2 for a wrong argument or input.";
 
 /// What was given wrong.

@@ -1,9 +1,9 @@
-use lib.ListN.{length-set}
+-- `replay_lines::decode` meets its contract: a store leaves the output as long as it was.
+use lib.ListN.{length, length-set}
 use borrow.Author.Needs.{needs}
-use Prim.Native.Nat.{ℕ, zero, suc, _+_, _-_, _*_, _<_, _≤_}
-use mathlib.Core.Path.{_≡_, refl, sym, ap, _∙_}
+use Prim.Native.Nat.{_-_, _≤_}
+use mathlib.Core.Path.{_≡_}
 use native.Mathlib.Omega.{arith}
-use lib.ListN.{length}
 use Rattle.replay_lines.proofs.decode.Statement.{statement}
 use Rattle.replay_lines.proofs.decode.Tie as tie
 

@@ -1,7 +1,6 @@
+-- `replay_lines::number` is safe and ends: its value stays below 10⁹, and each turn reads a byte.
 use borrow.Author.Needs.{needs}
-use Prim.Native.Nat.{ℕ, zero, suc, _+_, _-_, _*_, _<_, _≤_}
-use mathlib.Core.Path.{_≡_, refl, sym, ap, _∙_}
-use native.Mathlib.Omega.{arith}
+use Prim.Native.Nat.{_-_, _<_}
 use lib.ListN.{length}
 use Rattle.replay_lines.proofs.number.Statement.{statement}
 use Rattle.replay_lines.proofs.number.Tie as tie
@@ -15,6 +14,6 @@ abbrev μ-loop : tie.MeasureT-loop
 pub number-spec : {M : Type 1} → statement M
 number-spec =
     tie.close
-    (tie.spec Inv-loop μ-loop (λ c. search needs) (λ c. search needs) (λ c. search needs) (λ c. search needs)
+    (tie.spec Inv-loop μ-loop (λ c κs. search needs) (λ c. search needs) (λ c. search needs) (λ c. search needs)
     (λ c. search needs) (λ c. search needs) (λ c. search needs) (λ c. search needs) (λ c. search needs)
-    (λ c. search needs) (λ c. search needs))
+    (λ c. search needs) (λ c. search needs) (λ c. search needs))

@@ -1,4 +1,4 @@
--- `replay_name_text::same_bytes` is safe and ends.
+-- `replay_name_text::same_bytes` is safe and ends: both parts are as long, and each turn reads a byte of each.
 use borrow.Author.Needs.{needs}
 use Prim.Native.Nat.{_-_, _≤_}
 use lib.ListN.{length}
