@@ -5,6 +5,6 @@ pub mod Heads
 pub mod Blocks
 pub mod Whole
 pub mod Counted
-pub mod Row
+pub mod Relent
 pub mod Runs
 pub mod Lent

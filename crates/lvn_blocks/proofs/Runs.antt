@@ -35,9 +35,9 @@ use denote.Triple.Call.{calls-from}
 use Rattle.lvn_blocks.specs.declared.SaveCount.{SaveCount}
 use Rattle.lvn_blocks.specs.declared.Spot.{Spot}
 use Rattle.lvn_blocks.specs.declared.Behind.{Behind}
-use Rattle.lvn_blocks.proofs.Row.{Cell, Blocks, Par, passed, lends, passed-fit, locals, values, spots, past, relends, hands}
-use Rattle.lvn_blocks.proofs.Row.{alloc-all, pass-all, free-all, Stands, below-one, below-row, at-front, behind-row, from-at}
-use Rattle.lvn_blocks.proofs.Row.{takes, all-read, relent-all, handed-all}
+use Rattle.read_fields.proofs.Row.{Cell, Blocks, locals, values, spots, past, alloc-all, pass-all, free-all, Stands, below-one}
+use Rattle.read_fields.proofs.Row.{below-row, at-front, behind-row, from-at, takes, all-read}
+use Rattle.lvn_blocks.proofs.Relent.{Par, passed, lends, passed-fit, relends, hands, relent-all, handed-all}
 use Rattle.lvn_blocks.proofs.SaveCount as T
 use Rattle.lvn_blocks.proofs.SaveCount.Laws as T′
 use Rattle.lvn_blocks.proofs.Spot as S
