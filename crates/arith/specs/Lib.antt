@@ -5,3 +5,4 @@ pub mod Operation
 pub mod Code
 pub mod Equal
 pub mod Examples
+pub mod All

@@ -1,32 +1,19 @@
 -- Runs of the machine, computed: an input and its rewriting side by side, with what they did and how many steps they took.
 use Prim.Native.Nat.{ℕ, suc}
 use mathlib.Core.Path.{_≡_, refl}
-use mathlib.Core.Bool.{true, false, xor}
+use mathlib.Core.Bool.{true, false}
 use mathlib.Core.List.{List, [], _∷_, map}
 use mathlib.Core.Option.{Option, none, some}
-use native.Mathlib.Decide.{ℕ-discrete}
-use lib.ListN.{length, getD}
-use Rattle.record.specs.declared.NameIx.{NameIx}
+use lib.ListN.{getD}
 use Rattle.arith.specs.Value.{Val, int, bool, pointer}
 use Rattle.arith.specs.Operation.{by-zero}
-use Rattle.record.specs.Record.{nm, Placed, Record, Function, function, plain, wide, names-of}
+use Rattle.record.specs.Record.{nm, Placed, Record, Function, function, plain, wide}
 use Rattle.record.specs.Reader.{Res, got, fault}
 use Rattle.record.specs.Samples.{division, division-rewritten, call, call-rewritten, loop, loop-rewritten, walk}
-use Rattle.arith.specs.Code.{code1, code2, with-code, one-of, two-of}
-use Rattle.arith.specs.Map.{upd}
-use Rattle.arith.specs.Operation.{asInt, asBool, with-both, with-one, divide, shift, apply1, apply2, eval}
-use Rattle.arith.specs.Value.{typeOf, inRange}
-use Rattle.arith.specs.Word.{W, minus-one, addW, subW, mulW, divW, ltW}
-use Rattle.record.specs.Form.{value-of, form}
-use Rattle.record.specs.Hex.{digit-value, bytes-from, hex}
-use Rattle.record.specs.Read.{name-index, literal, arguments, operands, instr, block, name, names, length-field, end, contents, read}
-use Rattle.record.specs.Reader.{give, _>>=_, here, field, text, if-there, times}
-use Rattle.record.specs.Record.{type-in, id-bytes}
-use Rattle.record.specs.Shape.{shape-of}
-use Rattle.record.specs.Tests.{any, at-most, below, length-test, version-test, names-test, type-test, text-length-test, text-test, saves-test, code-test, count-test, literal-test}
-use Rattle.record.specs.Text.{all-text, well-formed, undigited, reserved, same-bytes, among}
-use Rattle.record.specs.Typing.{obeys, well-typed, body-types, block-types, accept}
-use Rattle.machine.specs.Machine.{Store, Context, Answer, value, go-on, halt, Event, Stop, at-end, at-ret, at-halt, at-unset, at-division, Mach, tick, assign, happens, read-all, finish, take-value, answered, perform, ask, acknowledged, tell, leave, choose, act, step, run-block, Place, before, stopped, Run, nth, arrive, passes, through, advance-from, advance, begin, iterate, run-with, run}
+use Rattle.arith.specs.Word.{W, minus-one}
+use Rattle.record.specs.Typing.{accept}
+use Rattle.machine.specs.Machine.{Store, Answer, value, go-on, halt, Event, at-end, at-ret, at-halt, at-unset, at-division, Place, before, stopped, Run, run}
+use Rattle.machine.specs.All.{all-of-machine}
 
 -- what a run shows: where it is, the blocks passed, the events, the answers left, the values of the names in order, and the steps
 pub record Summary : Type 0 where
@@ -79,7 +66,7 @@ pub stops-in-division :
       values = some (int 0) ∷ some (int 7) ∷ [];
       steps = 2;
     }
-unfolding code1 code2 with-code one-of two-of upd asInt asBool with-both with-one divide shift apply1 apply2 eval typeOf inRange addW subW mulW divW ltW value-of form digit-value bytes-from hex name-index literal arguments operands instr block name names length-field end contents read give _>>=_ here field text if-there times type-in id-bytes shape-of any at-most below length-test version-test names-test type-test text-length-test text-test saves-test code-test count-test literal-test all-text well-formed undigited reserved same-bytes among obeys well-typed body-types block-types accept tick assign happens read-all finish take-value answered perform ask acknowledged tell leave choose act step run-block nth arrive passes through advance-from advance begin iterate run-with run xor ℕ-discrete
+unfolding all-of-machine
 stops-in-division = refl
 
 pub stops-in-division-rewritten :
@@ -92,7 +79,7 @@ pub stops-in-division-rewritten :
       values = some (int 0) ∷ some (int 7) ∷ some (int 7) ∷ [];
       steps = 3;
     }
-unfolding code1 code2 with-code one-of two-of upd asInt asBool with-both with-one divide shift apply1 apply2 eval typeOf inRange addW subW mulW divW ltW value-of form digit-value bytes-from hex name-index literal arguments operands instr block name names length-field end contents read give _>>=_ here field text if-there times type-in id-bytes shape-of any at-most below length-test version-test names-test type-test text-length-test text-test saves-test code-test count-test literal-test all-text well-formed undigited reserved same-bytes among obeys well-typed body-types block-types accept tick assign happens read-all finish take-value answered perform ask acknowledged tell leave choose act step run-block nth arrive passes through advance-from advance begin iterate run-with run xor ℕ-discrete
+unfolding all-of-machine
 stops-in-division-rewritten = refl
 
 -- ---- a bool does not fit an int: the event stands, dest keeps its value
@@ -106,7 +93,7 @@ pub halts :
       values = some (int 5) ∷ [];
       steps = 1;
     }
-unfolding code1 code2 with-code one-of two-of upd asInt asBool with-both with-one divide shift apply1 apply2 eval typeOf inRange addW subW mulW divW ltW value-of form digit-value bytes-from hex name-index literal arguments operands instr block name names length-field end contents read give _>>=_ here field text if-there times type-in id-bytes shape-of any at-most below length-test version-test names-test type-test text-length-test text-test saves-test code-test count-test literal-test all-text well-formed undigited reserved same-bytes among obeys well-typed body-types block-types accept tick assign happens read-all finish take-value answered perform ask acknowledged tell leave choose act step run-block nth arrive passes through advance-from advance begin iterate run-with run xor ℕ-discrete
+unfolding all-of-machine
 halts = refl
 
 pub halts-rewritten :
@@ -119,7 +106,7 @@ pub halts-rewritten :
       values = some (int 5) ∷ some (int 5) ∷ [];
       steps = 2;
     }
-unfolding code1 code2 with-code one-of two-of upd asInt asBool with-both with-one divide shift apply1 apply2 eval typeOf inRange addW subW mulW divW ltW value-of form digit-value bytes-from hex name-index literal arguments operands instr block name names length-field end contents read give _>>=_ here field text if-there times type-in id-bytes shape-of any at-most below length-test version-test names-test type-test text-length-test text-test saves-test code-test count-test literal-test all-text well-formed undigited reserved same-bytes among obeys well-typed body-types block-types accept tick assign happens read-all finish take-value answered perform ask acknowledged tell leave choose act step run-block nth arrive passes through advance-from advance begin iterate run-with run xor ℕ-discrete
+unfolding all-of-machine
 halts-rewritten = refl
 
 -- ---- over a jump back: the first block is passed twice, with its save each time
@@ -133,7 +120,7 @@ pub jumps-back :
       values = some (int 0) ∷ some (int minus-one) ∷ some (int 0) ∷ some (bool false) ∷ [];
       steps = 9;
     }
-unfolding code1 code2 with-code one-of two-of upd asInt asBool with-both with-one divide shift apply1 apply2 eval typeOf inRange addW subW mulW divW ltW value-of form digit-value bytes-from hex name-index literal arguments operands instr block name names length-field end contents read give _>>=_ here field text if-there times type-in id-bytes shape-of any at-most below length-test version-test names-test type-test text-length-test text-test saves-test code-test count-test literal-test all-text well-formed undigited reserved same-bytes among obeys well-typed body-types block-types accept tick assign happens read-all finish take-value answered perform ask acknowledged tell leave choose act step run-block nth arrive passes through advance-from advance begin iterate run-with run xor ℕ-discrete
+unfolding all-of-machine
 jumps-back = refl
 
 pub jumps-back-rewritten :
@@ -146,7 +133,7 @@ pub jumps-back-rewritten :
       values = some (int 0) ∷ some (int minus-one) ∷ some (int 0) ∷ some (bool false) ∷ some (int 1) ∷ [];
       steps = 11;
     }
-unfolding code1 code2 with-code one-of two-of upd asInt asBool with-both with-one divide shift apply1 apply2 eval typeOf inRange addW subW mulW divW ltW value-of form digit-value bytes-from hex name-index literal arguments operands instr block name names length-field end contents read give _>>=_ here field text if-there times type-in id-bytes shape-of any at-most below length-test version-test names-test type-test text-length-test text-test saves-test code-test count-test literal-test all-text well-formed undigited reserved same-bytes among obeys well-typed body-types block-types accept tick assign happens read-all finish take-value answered perform ask acknowledged tell leave choose act step run-block nth arrive passes through advance-from advance begin iterate run-with run xor ℕ-discrete
+unfolding all-of-machine
 jumps-back-rewritten = refl
 
 -- ---- an empty block, nop, jmp, load, store, and the end past the last block
@@ -160,7 +147,7 @@ pub walks :
       values = some (pointer 0x10 100 8) ∷ some (int 9) ∷ [];
       steps = 4;
     }
-unfolding code1 code2 with-code one-of two-of upd asInt asBool with-both with-one divide shift apply1 apply2 eval typeOf inRange addW subW mulW divW ltW value-of form digit-value bytes-from hex name-index literal arguments operands instr block name names length-field end contents read give _>>=_ here field text if-there times type-in id-bytes shape-of any at-most below length-test version-test names-test type-test text-length-test text-test saves-test code-test count-test literal-test all-text well-formed undigited reserved same-bytes among obeys well-typed body-types block-types accept tick assign happens read-all finish take-value answered perform ask acknowledged tell leave choose act step run-block nth arrive passes through advance-from advance begin iterate run-with run xor ℕ-discrete
+unfolding all-of-machine
 walks = refl
 
 -- the first two blocks of it, before block 3 is begun
@@ -174,7 +161,7 @@ pub walks-on :
       values = some (pointer 0x10 100 8) ∷ none ∷ [];
       steps = 2;
     }
-unfolding code1 code2 with-code one-of two-of upd asInt asBool with-both with-one divide shift apply1 apply2 eval typeOf inRange addW subW mulW divW ltW value-of form digit-value bytes-from hex name-index literal arguments operands instr block name names length-field end contents read give _>>=_ here field text if-there times type-in id-bytes shape-of any at-most below length-test version-test names-test type-test text-length-test text-test saves-test code-test count-test literal-test all-text well-formed undigited reserved same-bytes among obeys well-typed body-types block-types accept tick assign happens read-all finish take-value answered perform ask acknowledged tell leave choose act step run-block nth arrive passes through advance-from advance begin iterate run-with run xor ℕ-discrete
+unfolding all-of-machine
 walks-on = refl
 
 -- ---- where each answer leads: value and effect codes, and an argument that is not set
@@ -187,7 +174,7 @@ pub answers-that-halt :
     (value (int 6) ∷ []) ∷ (value (int 6) ∷ value (int 6) ∷ []) ∷ (value (int 6) ∷ halt ∷ []) ∷ (value (int 6) ∷ go-on ∷ []) ∷ []) ≡
     stopped at-halt 0 0 ∷ stopped at-halt 0 0 ∷ stopped at-halt 0 0 ∷ stopped at-halt 0 0 ∷ stopped at-halt 0 0 ∷
     stopped at-halt 0 1 ∷ stopped at-halt 0 1 ∷ stopped at-halt 0 1 ∷ stopped at-end 1 0 ∷ []
-unfolding code1 code2 with-code one-of two-of upd asInt asBool with-both with-one divide shift apply1 apply2 eval typeOf inRange addW subW mulW divW ltW value-of form digit-value bytes-from hex name-index literal arguments operands instr block name names length-field end contents read give _>>=_ here field text if-there times type-in id-bytes shape-of any at-most below length-test version-test names-test type-test text-length-test text-test saves-test code-test count-test literal-test all-text well-formed undigited reserved same-bytes among obeys well-typed body-types block-types accept tick assign happens read-all finish take-value answered perform ask acknowledged tell leave choose act step run-block nth arrive passes through advance-from advance begin iterate run-with run xor ℕ-discrete
+unfolding all-of-machine
 answers-that-halt = refl
 
 pub unset-stops :
@@ -200,5 +187,5 @@ pub unset-stops :
       values = none ∷ [];
       steps = 1;
     }
-unfolding code1 code2 with-code one-of two-of upd asInt asBool with-both with-one divide shift apply1 apply2 eval typeOf inRange addW subW mulW divW ltW value-of form digit-value bytes-from hex name-index literal arguments operands instr block name names length-field end contents read give _>>=_ here field text if-there times type-in id-bytes shape-of any at-most below length-test version-test names-test type-test text-length-test text-test saves-test code-test count-test literal-test all-text well-formed undigited reserved same-bytes among obeys well-typed body-types block-types accept tick assign happens read-all finish take-value answered perform ask acknowledged tell leave choose act step run-block nth arrive passes through advance-from advance begin iterate run-with run xor ℕ-discrete
+unfolding all-of-machine
 unset-stops = refl

@@ -1,22 +1,19 @@
 -- Runs of small functions, computed: no block at all, events with their callee, answers of every type, what is read first, and every end.
 use Prim.Native.Nat.{ℕ}
 use mathlib.Core.Path.{_≡_, refl}
-use mathlib.Core.Bool.{Bool, true, false, xor}
+use mathlib.Core.Bool.{Bool, true, false}
 use mathlib.Core.List.{List, [], _∷_, _++_, map}
 use mathlib.Core.Option.{Option, none, some}
-use native.Mathlib.Decide.{ℕ-discrete}
 use lib.ListN.{length}
-use Rattle.arith.specs.Code.{code1, code2, with-code, one-of, two-of}
-use Rattle.arith.specs.Map.{upd}
-use Rattle.arith.specs.Operation.{by-zero, overflow, asInt, asBool, with-both, with-one, divide, shift, apply1, apply2, eval}
-use Rattle.arith.specs.Value.{Val, int, float, literal, char, bool, pointer, typeOf, inRange}
-use Rattle.arith.specs.Word.{W, least, minus-one, addW, subW, mulW, divW, ltW}
-use Rattle.record.specs.Form.{value-of, form}
-use Rattle.record.specs.Record.{Instr, Function, type-in}
+use Rattle.arith.specs.Operation.{by-zero, overflow}
+use Rattle.arith.specs.Value.{Val, int, float, literal, char, bool, pointer}
+use Rattle.arith.specs.Word.{W, least, minus-one}
+use Rattle.record.specs.Record.{Instr, Function}
 use Rattle.record.specs.Short.{gives, asks, set, does, tells, chooses, goes}
 use Rattle.record.specs.Tables.{count, numerals}
-use Rattle.machine.specs.Machine.{Answer, value, go-on, halt, Event, Stop, at-end, at-ret, at-halt, at-unset, at-division, tick, assign, happens, read-all, finish, take-value, answered, perform, ask, acknowledged, tell, leave, choose, act, step, run-block, Place, before, stopped, nth, arrive, passes, through, advance-from, advance, begin, iterate, run-with, run}
+use Rattle.machine.specs.Machine.{Answer, value, go-on, halt, Event, Stop, at-end, at-ret, at-halt, at-unset, at-division, Place, before, stopped, run}
 use Rattle.machine.specs.Examples.{Summary, summary, store-of, event}
+use Rattle.machine.specs.All.{all-of-machine}
 
 -- a function by the types of its names and its blocks, what its names hold, the answers, how many blocks are run, and what the run shows
 pub record Case : Type 0 where
@@ -265,7 +262,7 @@ cases =
     no-blocks ++ (events-in-order ++ (codes-with-events ++ (halting-answers ++ (returns ++ (read-first ++ (literal-in-a-float ++ (computed ++ ways)))))))
 
 pub run-so : map (λ c. ran (c .types) (c .blocks) (c .values) (c .answers) (c .asked)) cases ≡ map (λ c. c .shows) cases
-unfolding count numerals code1 code2 with-code one-of two-of upd asInt asBool with-both with-one divide shift apply1 apply2 eval typeOf inRange addW subW mulW divW ltW value-of form type-in tick assign happens read-all finish take-value answered perform ask acknowledged tell leave choose act step run-block nth arrive passes through advance-from advance begin iterate run-with run xor ℕ-discrete
+unfolding all-of-machine count numerals
 run-so = refl
 
 -- ---- "a value of dest's type": 1 where the call of that type takes the value, 0 where it halts
@@ -293,5 +290,5 @@ pub answers-by-type :
     "000 00 000 00 000000 001000" ∷
     "000 00 000 00 000000 000000" ∷
     [])
-unfolding count numerals code1 code2 with-code one-of two-of upd asInt asBool with-both with-one divide shift apply1 apply2 eval typeOf inRange addW subW mulW divW ltW value-of form type-in tick assign happens read-all finish take-value answered perform ask acknowledged tell leave choose act step run-block nth arrive passes through advance-from advance begin iterate run-with run xor ℕ-discrete
+unfolding all-of-machine count numerals
 answers-by-type = refl

@@ -4,18 +4,12 @@ use Prim.Native.String.{String}
 use mathlib.Core.Path.{_≡_, refl}
 use mathlib.Core.List.{List, [], _∷_, _++_, map, flatMap}
 use lib.ListN.{length, take, replicate}
-use Rattle.record.specs.Answer.{Returned, number, check-answer, checked}
-use Rattle.record.specs.Hex.{digit-value, bytes-from, hex}
-use Rattle.record.specs.Read.{name-index, literal, arguments, operands, instr, block, name, names, length-field, end, contents, read}
-use Rattle.record.specs.Reader.{give, _>>=_, here, field, text, if-there, times}
-use Rattle.record.specs.Record.{type-in, id-bytes}
-use Rattle.record.specs.Shape.{shape-of}
-use Rattle.record.specs.Tests.{any, at-most, below, length-test, version-test, names-test, type-test, text-length-test, text-test, saves-test, code-test, count-test, literal-test}
-use Rattle.record.specs.Text.{all-text, well-formed, undigited, reserved, same-bytes, among}
-use Rattle.record.specs.Typing.{obeys, well-typed, body-types, block-types, accept}
+use Rattle.record.specs.Answer.{Returned}
+use Rattle.record.specs.Hex.{hex}
 use Rattle.record.specs.Write.{be}
 use Rattle.record.specs.Refusals.{accepted, refused, says, with-length, otherwise}
 use Rattle.record.specs.Tables.{count, keep}
+use Rattle.record.specs.All.{all-of-record}
 
 -- ---- every field of a record: a int, c bool, d char; d = 'A'; a = add a a; a = call 7 (c); br c to block 0 or 1; call 7 ()
 -- each with the answer where it and all behind it is FF. An id and a callee may be that: then the next code is refused
@@ -46,11 +40,11 @@ filled n s [] = []
 filled n s (x ∷ xs) = says (with-length (s ++ replicate (n - length s) 0xFF)) ∷ filled n (s ++ x) xs
 
 pub cut-short : cuts [] (map (λ f. hex (f .0)) fields) ≡ []
-unfolding flatMap count keep number check-answer checked digit-value bytes-from hex name-index literal arguments operands instr block name names length-field end contents read give _>>=_ here field text if-there times type-in id-bytes shape-of any at-most below length-test version-test names-test type-test text-length-test text-test saves-test code-test count-test literal-test all-text well-formed undigited reserved same-bytes among obeys well-typed body-types block-types accept be cuts
+unfolding all-of-record flatMap count keep cuts
 cut-short = refl
 
 pub wrong-from : says (with-length (flatMap (λ f. hex (f .0)) fields)) ∷ filled 83 [] (map (λ f. hex (f .0)) fields) ≡ accepted ∷ map (λ f. f .1) fields
-unfolding flatMap count keep number check-answer checked digit-value bytes-from hex name-index literal arguments operands instr block name names length-field end contents read give _>>=_ here field text if-there times type-in id-bytes shape-of any at-most below length-test version-test names-test type-test text-length-test text-test saves-test code-test count-test literal-test all-text well-formed undigited reserved same-bytes among obeys well-typed body-types block-types accept be filled
+unfolding all-of-record flatMap count keep filled
 wrong-from = refl
 
 -- ---- faults side by side; all that follows L is written
@@ -124,5 +118,5 @@ any-type =
     (all-eight ++ each-index (λ i. hex "0001 0000 00000004 42 01" ++ be 2 i))))
 
 pub side-by-side : says (with-length any-type) ∷ map (λ r. says (with-length (hex (r .0)))) rows ≡ accepted ∷ map (λ r. r .1) rows
-unfolding flatMap count keep number check-answer checked digit-value bytes-from hex name-index literal arguments operands instr block name names length-field end contents read give _>>=_ here field text if-there times type-in id-bytes shape-of any at-most below length-test version-test names-test type-test text-length-test text-test saves-test code-test count-test literal-test all-text well-formed undigited reserved same-bytes among obeys well-typed body-types block-types accept be
+unfolding all-of-record flatMap count keep
 side-by-side = refl

@@ -6,18 +6,12 @@ use mathlib.Core.Bool.{Bool, not, _&&_}
 use mathlib.Core.List.{List, [], _∷_, _++_, map}
 use lib.ListN.{length}
 use lib.Dec.{eqb}
-use Rattle.arith.specs.Value.{typeOf, inRange}
-use Rattle.record.specs.Answer.{Returned, number, check-answer, checked, literal-of}
-use Rattle.record.specs.Hex.{digit-value, bytes-from, hex}
-use Rattle.record.specs.Read.{name-index, literal, arguments, operands, instr, block, name, names, length-field, end, contents, read}
-use Rattle.record.specs.Reader.{give, _>>=_, here, field, text, if-there, times}
-use Rattle.record.specs.Record.{type-in, id-bytes}
-use Rattle.record.specs.Shape.{shape-of}
+use Rattle.record.specs.Answer.{Returned, check-answer, checked}
+use Rattle.record.specs.Hex.{hex}
 use Rattle.record.specs.Tables.{keep}
-use Rattle.record.specs.Tests.{any, at-most, below, length-test, version-test, names-test, type-test, text-length-test, text-test, saves-test, code-test, count-test, literal-test}
-use Rattle.record.specs.Text.{all-text, well-formed, undigited, reserved, same-bytes, among}
-use Rattle.record.specs.Typing.{obeys, well-typed, body-types, block-types, accept}
-use Rattle.record.specs.Write.{be, join, when, index-bytes, literal-bytes, argument-bytes, operand-bytes, instr-bytes, block-bytes, name-bytes, content-bytes, bytes}
+use Rattle.record.specs.Text.{same-bytes}
+use Rattle.record.specs.Write.{be}
+use Rattle.record.specs.All.{all-of-record}
 
 -- the answer of check, and its number and offset
 abbrev pub accepted : Returned
@@ -131,7 +125,7 @@ rows =
     []
 
 pub refusals : map (λ r. says (with-length (hex (r .0)))) rows ≡ map (λ r. r .1) rows
-unfolding typeOf inRange number check-answer checked literal-of digit-value bytes-from hex name-index literal arguments operands instr block name names length-field end contents read give _>>=_ here field text if-there times type-in id-bytes shape-of any at-most below length-test version-test names-test type-test text-length-test text-test saves-test code-test count-test literal-test all-text well-formed undigited reserved same-bytes among obeys well-typed body-types block-types accept be join when index-bytes literal-bytes argument-bytes operand-bytes instr-bytes block-bytes name-bytes content-bytes bytes
+unfolding all-of-record
 refusals = refl
 
 -- fewer than four bytes, and L that is not the rest, whatever stands behind it
@@ -140,5 +134,5 @@ pub first-refusals :
     ("" ∷ "00" ∷ "0000" ∷ "000000" ∷
     "00000007 01 00 0000 0000" ∷ "00000005 01 00 0000 0000" ∷ "01000006 01 00 0000 0000" ∷ "00000002 02" ∷ []) ≡
     refused 1 0 ∷ refused 1 0 ∷ refused 1 0 ∷ refused 1 0 ∷ refused 1 0 ∷ refused 1 0 ∷ refused 1 0 ∷ refused 1 0 ∷ []
-unfolding typeOf inRange number check-answer checked literal-of digit-value bytes-from hex name-index literal arguments operands instr block name names length-field end contents read give _>>=_ here field text if-there times type-in id-bytes shape-of any at-most below length-test version-test names-test type-test text-length-test text-test saves-test code-test count-test literal-test all-text well-formed undigited reserved same-bytes among obeys well-typed body-types block-types accept be join when index-bytes literal-bytes argument-bytes operand-bytes instr-bytes block-bytes name-bytes content-bytes bytes
+unfolding all-of-record
 first-refusals = refl
