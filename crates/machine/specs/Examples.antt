@@ -2,7 +2,7 @@
 use Prim.Native.Nat.{ℕ, suc}
 use mathlib.Core.Path.{_≡_, refl}
 use mathlib.Core.Bool.{true, false}
-use mathlib.Core.List.{List, [], _∷_, map}
+use mathlib.Core.List.{List, [], _∷_, _++_, map}
 use mathlib.Core.Option.{Option, none, some}
 use lib.ListN.{getD}
 use Rattle.arith.specs.Value.{Val, int, bool, pointer}
@@ -55,116 +55,91 @@ runs s vs answers n = let f = function-of (accept wide s) in summary f (run f (s
 abbrev pub event : ℕ → ℕ → ℕ → List Val → Event
 event i c f vs = record { id = i; code = c; callee = f; args = vs }
 
--- ---- a division by zero stops both runs, the second behind one save
-pub stops-in-division :
-    runs division (some (int 0) ∷ none ∷ []) (go-on ∷ []) 1 ≡
-    record {
-      place = stopped (at-division 2 by-zero) 0 1;
-      passed = [];
-      events = [];
-      answers = go-on ∷ [];
-      values = some (int 0) ∷ some (int 7) ∷ [];
-      steps = 2;
-    }
-unfolding all-of-machine
-stops-in-division = refl
+-- a summary by its parts in order
+abbrev pub shows : Place → List ℕ → List Event → List Answer → List (Option Val) → ℕ → Summary
+shows p bs es xs vs n = record { place = p; passed = bs; events = es; answers = xs; values = vs; steps = n }
 
-pub stops-in-division-rewritten :
-    runs division-rewritten (some (int 0) ∷ none ∷ []) (go-on ∷ []) 1 ≡
-    record {
-      place = stopped (at-division 2 by-zero) 0 2;
-      passed = [];
-      events = [];
-      answers = go-on ∷ [];
-      values = some (int 0) ∷ some (int 7) ∷ some (int 7) ∷ [];
-      steps = 3;
-    }
-unfolding all-of-machine
-stops-in-division-rewritten = refl
+-- ---- a record, what its names hold, the answers, how many blocks are run, and what the run shows
+abbrev pub Case : Type 0
+Case = List ℕ × List (Option Val) × List Answer × ℕ × Summary
 
--- ---- a bool does not fit an int: the event stands, dest keeps its value
-pub halts :
-    runs call (some (int 5) ∷ []) (value (bool true) ∷ go-on ∷ []) 1 ≡
-    record {
-      place = stopped at-halt 0 0;
-      passed = [];
-      events = event 1 20 3 (int 5 ∷ []) ∷ [];
-      answers = go-on ∷ [];
-      values = some (int 5) ∷ [];
-      steps = 1;
-    }
-unfolding all-of-machine
-halts = refl
+-- a division by zero stops both runs, the second behind one save
+abbrev pub stops-in-division : List Case
+stops-in-division =
+    let vs : List (Option Val) = some (int 0) ∷ none ∷ [] in (
+      division,
+      vs,
+      (go-on ∷ []),
+      1,
+      shows (stopped (at-division 2 by-zero) 0 1) [] [] (go-on ∷ []) (some (int 0) ∷ some (int 7) ∷ []) 2,
+    ) ∷ (
+      division-rewritten,
+      vs,
+      (go-on ∷ []),
+      1,
+      shows (stopped (at-division 2 by-zero) 0 2) [] [] (go-on ∷ []) (some (int 0) ∷ some (int 7) ∷ some (int 7) ∷ []) 3,
+    ) ∷
+    []
 
-pub halts-rewritten :
-    runs call-rewritten (some (int 5) ∷ []) (value (bool true) ∷ go-on ∷ []) 1 ≡
-    record {
-      place = stopped at-halt 0 1;
-      passed = [];
-      events = event 1 20 3 (int 5 ∷ []) ∷ [];
-      answers = go-on ∷ [];
-      values = some (int 5) ∷ some (int 5) ∷ [];
-      steps = 2;
-    }
-unfolding all-of-machine
-halts-rewritten = refl
+-- a bool does not fit an int: the event stands, dest keeps its value
+abbrev pub halts : List Case
+halts =
+    let vs : List (Option Val) = some (int 5) ∷ [] in
+    let xs : List Answer = value (bool true) ∷ go-on ∷ [] in
+    let es : List Event = event 1 20 3 (int 5 ∷ []) ∷ [] in
+    (call, vs, xs, 1, shows (stopped at-halt 0 0) [] es (go-on ∷ []) (some (int 5) ∷ []) 1) ∷
+    (call-rewritten, vs, xs, 1, shows (stopped at-halt 0 1) [] es (go-on ∷ []) (some (int 5) ∷ some (int 5) ∷ []) 2) ∷
+    []
 
--- ---- over a jump back: the first block is passed twice, with its save each time
-pub jumps-back :
-    runs loop (some (int 2) ∷ some (int minus-one) ∷ some (int 0) ∷ []) (go-on ∷ go-on ∷ halt ∷ []) 5 ≡
-    record {
-      place = stopped at-ret 1 0;
-      passed = 0 ∷ 0 ∷ [];
-      events = event 2 68 0 (int 1 ∷ []) ∷ event 2 68 0 (int 0 ∷ []) ∷ event 5 66 0 (int 0 ∷ []) ∷ [];
-      answers = halt ∷ [];
-      values = some (int 0) ∷ some (int minus-one) ∷ some (int 0) ∷ some (bool false) ∷ [];
-      steps = 9;
-    }
-unfolding all-of-machine
-jumps-back = refl
+-- over a jump back: the first block is passed twice, with its save each time
+abbrev pub jumps-back : List Case
+jumps-back =
+    let vs : List (Option Val) = some (int 2) ∷ some (int minus-one) ∷ some (int 0) ∷ [] in
+    let xs : List Answer = go-on ∷ go-on ∷ halt ∷ [] in
+    let es : List Event = event 2 68 0 (int 1 ∷ []) ∷ event 2 68 0 (int 0 ∷ []) ∷ event 5 66 0 (int 0 ∷ []) ∷ [] in (
+      loop,
+      vs,
+      xs,
+      5,
+      shows (stopped at-ret 1 0) (0 ∷ 0 ∷ []) es (halt ∷ [])
+          (some (int 0) ∷ some (int minus-one) ∷ some (int 0) ∷ some (bool false) ∷ []) 9,
+    ) ∷ (
+      loop-rewritten,
+      vs,
+      xs,
+      5,
+      shows (stopped at-ret 1 0) (0 ∷ 0 ∷ []) es (halt ∷ [])
+          (some (int 0) ∷ some (int minus-one) ∷ some (int 0) ∷ some (bool false) ∷ some (int 1) ∷ []) 11,
+    ) ∷
+    []
 
-pub jumps-back-rewritten :
-    runs loop-rewritten (some (int 2) ∷ some (int minus-one) ∷ some (int 0) ∷ []) (go-on ∷ go-on ∷ halt ∷ []) 5 ≡
-    record {
-      place = stopped at-ret 1 0;
-      passed = 0 ∷ 0 ∷ [];
-      events = event 2 68 0 (int 1 ∷ []) ∷ event 2 68 0 (int 0 ∷ []) ∷ event 5 66 0 (int 0 ∷ []) ∷ [];
-      answers = halt ∷ [];
-      values = some (int 0) ∷ some (int minus-one) ∷ some (int 0) ∷ some (bool false) ∷ some (int 1) ∷ [];
-      steps = 11;
-    }
-unfolding all-of-machine
-jumps-back-rewritten = refl
+-- an empty block, nop, jmp, load, store, and the end past the last block; the first two blocks of it, before block 3 is begun
+abbrev pub walks : List Case
+walks =
+    let p : Val = pointer 0x10 100 8 in (
+      walk,
+      (some p ∷ none ∷ []),
+      (value (int 9) ∷ go-on ∷ []),
+      4,
+      shows (stopped at-end 4 0) (3 ∷ 1 ∷ 0 ∷ []) (event 4 38 0 (p ∷ []) ∷ event 5 70 0 (p ∷ int 9 ∷ []) ∷ []) []
+          (some p ∷ some (int 9) ∷ []) 4,
+    ) ∷
+    (walk, (some p ∷ none ∷ []), [], 2, shows (before 3) (1 ∷ 0 ∷ []) [] [] (some p ∷ none ∷ []) 2) ∷
+    []
 
--- ---- an empty block, nop, jmp, load, store, and the end past the last block
-pub walks :
-    runs walk (some (pointer 0x10 100 8) ∷ none ∷ []) (value (int 9) ∷ go-on ∷ []) 4 ≡
-    record {
-      place = stopped at-end 4 0;
-      passed = 3 ∷ 1 ∷ 0 ∷ [];
-      events = event 4 38 0 (pointer 0x10 100 8 ∷ []) ∷ event 5 70 0 (pointer 0x10 100 8 ∷ int 9 ∷ []) ∷ [];
-      answers = [];
-      values = some (pointer 0x10 100 8) ∷ some (int 9) ∷ [];
-      steps = 4;
-    }
-unfolding all-of-machine
-walks = refl
+-- an argument that is not set
+abbrev pub unset-stops : List Case
+unset-stops =
+    (call, [], (value (int 6) ∷ []), 1, shows (stopped at-unset 0 0) [] [] (value (int 6) ∷ []) (none ∷ []) 1) ∷ []
 
--- the first two blocks of it, before block 3 is begun
-pub walks-on :
-    runs walk (some (pointer 0x10 100 8) ∷ none ∷ []) [] 2 ≡
-    record {
-      place = before 3;
-      passed = 1 ∷ 0 ∷ [];
-      events = [];
-      answers = [];
-      values = some (pointer 0x10 100 8) ∷ none ∷ [];
-      steps = 2;
-    }
-unfolding all-of-machine
-walks-on = refl
+abbrev pub cases : List Case
+cases = stops-in-division ++ (halts ++ (jumps-back ++ (walks ++ unset-stops)))
 
--- ---- where each answer leads: value and effect codes, and an argument that is not set
+pub samples-run : map (λ c. runs (c .0) (c .1) (c .2) (c .3)) cases ≡ map (λ c. c .4) cases
+unfolding all-of-machine
+samples-run = refl
+
+-- ---- where each answer leads: value and effect codes
 abbrev pub stop-of : List ℕ → List (Option Val) → List Answer → Place
 stop-of s vs answers = runs s vs answers 5 .place
 
@@ -176,16 +151,3 @@ pub answers-that-halt :
     stopped at-halt 0 1 ∷ stopped at-halt 0 1 ∷ stopped at-halt 0 1 ∷ stopped at-end 1 0 ∷ []
 unfolding all-of-machine
 answers-that-halt = refl
-
-pub unset-stops :
-    runs call [] (value (int 6) ∷ []) 1 ≡
-    record {
-      place = stopped at-unset 0 0;
-      passed = [];
-      events = [];
-      answers = value (int 6) ∷ [];
-      values = none ∷ [];
-      steps = 1;
-    }
-unfolding all-of-machine
-unset-stops = refl
