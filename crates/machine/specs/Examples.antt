@@ -66,19 +66,11 @@ Case = List ℕ × List (Option Val) × List Answer × ℕ × Summary
 -- a division by zero stops both runs, the second behind one save
 abbrev pub stops-in-division : List Case
 stops-in-division =
-    let vs : List (Option Val) = some (int 0) ∷ none ∷ [] in (
-      division,
-      vs,
-      (go-on ∷ []),
-      1,
-      shows (stopped (at-division 2 by-zero) 0 1) [] [] (go-on ∷ []) (some (int 0) ∷ some (int 7) ∷ []) 2,
-    ) ∷ (
-      division-rewritten,
-      vs,
-      (go-on ∷ []),
-      1,
-      shows (stopped (at-division 2 by-zero) 0 2) [] [] (go-on ∷ []) (some (int 0) ∷ some (int 7) ∷ some (int 7) ∷ []) 3,
-    ) ∷
+    let vs : List (Option Val) = some (int 0) ∷ none ∷ [] in
+    let xs : List Answer = go-on ∷ [] in
+    let stop : ℕ → Place = stopped (at-division 2 by-zero) 0 in
+    (division, vs, xs, 1, shows (stop 1) [] [] xs (some (int 0) ∷ some (int 7) ∷ []) 2) ∷
+    (division-rewritten, vs, xs, 1, shows (stop 2) [] [] xs (some (int 0) ∷ some (int 7) ∷ some (int 7) ∷ []) 3) ∷
     []
 
 -- a bool does not fit an int: the event stands, dest keeps its value
@@ -96,41 +88,26 @@ abbrev pub jumps-back : List Case
 jumps-back =
     let vs : List (Option Val) = some (int 2) ∷ some (int minus-one) ∷ some (int 0) ∷ [] in
     let xs : List Answer = go-on ∷ go-on ∷ halt ∷ [] in
-    let es : List Event = event 2 68 0 (int 1 ∷ []) ∷ event 2 68 0 (int 0 ∷ []) ∷ event 5 66 0 (int 0 ∷ []) ∷ [] in (
-      loop,
-      vs,
-      xs,
-      5,
-      shows (stopped at-ret 1 0) (0 ∷ 0 ∷ []) es (halt ∷ [])
-          (some (int 0) ∷ some (int minus-one) ∷ some (int 0) ∷ some (bool false) ∷ []) 9,
-    ) ∷ (
-      loop-rewritten,
-      vs,
-      xs,
-      5,
-      shows (stopped at-ret 1 0) (0 ∷ 0 ∷ []) es (halt ∷ [])
-          (some (int 0) ∷ some (int minus-one) ∷ some (int 0) ∷ some (bool false) ∷ some (int 1) ∷ []) 11,
-    ) ∷
+    let es : List Event = event 2 68 0 (int 1 ∷ []) ∷ event 2 68 0 (int 0 ∷ []) ∷ event 5 66 0 (int 0 ∷ []) ∷ [] in
+    let end : List (Option Val) → ℕ → Summary = shows (stopped at-ret 1 0) (0 ∷ 0 ∷ []) es (halt ∷ []) in
+    (loop, vs, xs, 5, end (some (int 0) ∷ some (int minus-one) ∷ some (int 0) ∷ some (bool false) ∷ []) 9) ∷
+    (loop-rewritten, vs, xs, 5, end (some (int 0) ∷ some (int minus-one) ∷ some (int 0) ∷ some (bool false) ∷ some (int 1) ∷ []) 11) ∷
     []
 
 -- an empty block, nop, jmp, load, store, and the end past the last block; the first two blocks of it, before block 3 is begun
 abbrev pub walks : List Case
 walks =
-    let p : Val = pointer 0x10 100 8 in (
-      walk,
-      (some p ∷ none ∷ []),
-      (value (int 9) ∷ go-on ∷ []),
-      4,
-      shows (stopped at-end 4 0) (3 ∷ 1 ∷ 0 ∷ []) (event 4 38 0 (p ∷ []) ∷ event 5 70 0 (p ∷ int 9 ∷ []) ∷ []) []
-          (some p ∷ some (int 9) ∷ []) 4,
-    ) ∷
-    (walk, (some p ∷ none ∷ []), [], 2, shows (before 3) (1 ∷ 0 ∷ []) [] [] (some p ∷ none ∷ []) 2) ∷
+    let p : Val = pointer 0x10 100 8 in
+    let vs : List (Option Val) = some p ∷ none ∷ [] in
+    let es : List Event = event 4 38 0 (p ∷ []) ∷ event 5 70 0 (p ∷ int 9 ∷ []) ∷ [] in
+    (walk, vs, value (int 9) ∷ go-on ∷ [], 4, shows (stopped at-end 4 0) (3 ∷ 1 ∷ 0 ∷ []) es [] (some p ∷ some (int 9) ∷ []) 4) ∷
+    (walk, vs, [], 2, shows (before 3) (1 ∷ 0 ∷ []) [] [] vs 2) ∷
     []
 
 -- an argument that is not set
 abbrev pub unset-stops : List Case
 unset-stops =
-    (call, [], (value (int 6) ∷ []), 1, shows (stopped at-unset 0 0) [] [] (value (int 6) ∷ []) (none ∷ []) 1) ∷ []
+    (call, [], value (int 6) ∷ [], 1, shows (stopped at-unset 0 0) [] [] (value (int 6) ∷ []) (none ∷ []) 1) ∷ []
 
 abbrev pub cases : List Case
 cases = stops-in-division ++ (halts ++ (jumps-back ++ (walks ++ unset-stops)))

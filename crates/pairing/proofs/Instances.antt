@@ -15,7 +15,7 @@ use Rattle.record.specs.Record.{Bytes, Placed, Record, Function, function, plai
 use Rattle.record.specs.Reader.{Res, got, fault}
 use Rattle.record.specs.Typing.{accept}
 use Rattle.numbering.specs.Number.{lvn}
-use Rattle.machine.specs.Machine.{Answer, run}
+use Rattle.machine.specs.Machine.{Answer, Run, run}
 use Rattle.machine.specs.Reached.{is-set, read-no-unset}
 use Rattle.machine.specs.Examples.{store-of, function-of}
 use Rattle.pairing.proofs.Accepted.{accepted-fit}
@@ -99,32 +99,44 @@ record-alike s b a = go (accept limits s) refl a
     go (got r p) e t = demand3 (function (plain r)) (accepted-fit s (bytes-are s b) r p e)
     go (fault k o) e t = absurd t
 
--- the two runs over n blocks from the stores vs and ws, and that they are alike
-pub record Instance (s : List ℕ) (vs ws : List (Option Val)) (answers : List Answer) (n : ℕ) : Type 0 where
-  pub alike :
-      let f = function-of (accept limits s) in
-      Agree (names-of f) (lvn f .blocks) (run f (store-of vs) answers n) (run (lvn f) (store-of ws) answers n)
+-- a record, what the names of its function and of its rewriting hold at the start, the answers, and how many blocks are run
+pub record Case : Type 0 where
+  pub bytes : List ℕ
+  pub first : List (Option Val)
+  pub second : List (Option Val)
+  pub answers : List Answer
+  pub asked : ℕ
+
+abbrev pub function-in : Case → Function
+function-in c = function-of (accept limits (c .bytes))
+
+abbrev pub first-run : Case → Run
+first-run c = run (function-in c) (store-of (c .first)) (c .answers) (c .asked)
+
+abbrev pub second-run : Case → Run
+second-run c = run (lvn (function-in c)) (store-of (c .second)) (c .answers) (c .asked)
+
+-- the two runs are alike
+pub record Instance (c : Case) : Type 0 where
+  pub alike : let f = function-in c in Agree (names-of f) (lvn f .blocks) (first-run c) (second-run c)
 
 -- every premise of demand 3 in one test
-abbrev pub meets : List ℕ → List (Option Val) → List (Option Val) → List Answer → ℕ → Bool
-meets s vs ws answers n =
-    let f = function-of (accept limits s) in
-    are-bytes s && (accepted (accept limits s) && (typed (f .types) vs && (first-set (f .args) vs &&
-    (all-same (names-of f) vs ws && read-no-unset f (store-of vs) answers n))))
+abbrev pub meets : Case → Bool
+meets c =
+    let f = function-in c in
+    are-bytes (c .bytes) && (accepted (accept limits (c .bytes)) && (typed (f .types) (c .first) && (first-set (f .args) (c .first) &&
+    (all-same (names-of f) (c .first) (c .second) && read-no-unset f (store-of (c .first)) (c .answers) (c .asked)))))
 
-pub instance :
-    (s : List ℕ) (vs ws : List (Option Val)) (answers : List Answer) (n : ℕ) →
-    T (meets s vs ws answers n) →
-    Instance s vs ws answers n
-instance s vs ws answers n t =
-    let f = function-of (accept limits s) in
-    let (b, t₁) = both (are-bytes s) _ t in
-    let (a, t₂) = both (accepted (accept limits s)) _ t₁ in
-    let (ty, t₃) = both (typed (f .types) vs) _ t₂ in
-    let (st, t₄) = both (first-set (f .args) vs) _ t₃ in
-    let (sa, q) = both (all-same (names-of f) vs ws) _ t₄ in
+pub instance : (c : Case) → T (meets c) → Instance c
+instance c t =
+    let f = function-in c in
+    let (b, t₁) = both (are-bytes (c .bytes)) _ t in
+    let (a, t₂) = both (accepted (accept limits (c .bytes))) _ t₁ in
+    let (ty, t₃) = both (typed (f .types) (c .first)) _ t₂ in
+    let (st, t₄) = both (first-set (f .args) (c .first)) _ t₃ in
+    let (sa, q) = both (all-same (names-of f) (c .first) (c .second)) _ t₄ in
     record {
       alike =
-          record-alike s b a (store-of vs) (store-of ws) (starts-from f vs ws ty st sa) answers n
-          (is-true (read-no-unset f (store-of vs) answers n) q);
+          record-alike (c .bytes) b a (store-of (c .first)) (store-of (c .second)) (starts-from f (c .first) (c .second) ty st sa)
+          (c .answers) (c .asked) (is-true (read-no-unset f (store-of (c .first)) (c .answers) (c .asked)) q);
     }
