@@ -11,7 +11,7 @@ use Rattle.arith.specs.Word.{W, least, minus-one}
 use Rattle.arith.specs.Value.{int, float, literal, char, bool, pointer, is-pointer, scalar, has-type}
 use Rattle.arith.specs.Operation.{by-zero, overflow, Result, ok, stops, unset, apply1, apply2, two, eval}
 use Rattle.arith.specs.Code.{code1, code2, ones, twos}
-use Rattle.arith.specs.All.{all-of-arith}
+use Rattle.arith.specs.Opened.{all-of-arith}
 
 -- the word of -n
 abbrev pub minus : ℕ → ℕ

@@ -5,4 +5,4 @@ pub mod Operation
 pub mod Code
 pub mod Equal
 pub mod Examples
-pub mod All
+pub mod Opened

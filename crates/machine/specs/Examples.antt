@@ -13,7 +13,7 @@ use Rattle.record.specs.Samples.{division, division-rewritten, call, call-rewri
 use Rattle.arith.specs.Word.{W, minus-one}
 use Rattle.record.specs.Typing.{accept}
 use Rattle.machine.specs.Machine.{Store, Answer, value, go-on, halt, Event, at-end, at-ret, at-halt, at-unset, at-division, Place, before, stopped, Run, run}
-use Rattle.machine.specs.All.{all-of-machine}
+use Rattle.machine.specs.Opened.{all-of-machine}
 
 -- what a run shows: where it is, the blocks passed, the events, the answers left, the values of the names in order, and the steps
 pub record Summary : Type 0 where

@@ -3,4 +3,4 @@ pub mod Reached
 pub mod Examples
 pub mod ReachedRuns
 pub mod Runs
-pub mod All
+pub mod Opened

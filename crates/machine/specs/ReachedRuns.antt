@@ -10,7 +10,7 @@ use Rattle.record.specs.Short.{gives, does, chooses, goes}
 use Rattle.machine.specs.Machine.{Store, Answer, value, go-on, halt}
 use Rattle.machine.specs.Reached.{reached, read-no-unset}
 use Rattle.machine.specs.Examples.{values-in, store-of}
-use Rattle.machine.specs.All.{all-of-machine}
+use Rattle.machine.specs.Opened.{all-of-machine}
 
 -- names: 0 an int that is set, 1 the int 0, 2 and 3 ints that are not set, 4 a bool that is set
 abbrev func : List (List Instr) → Function

@@ -13,7 +13,7 @@ use Rattle.record.specs.Short.{gives, asks, set, does, tells, chooses, goes}
 use Rattle.record.specs.Tables.{count, numerals}
 use Rattle.machine.specs.Machine.{Answer, value, go-on, halt, Event, Stop, at-end, at-ret, at-halt, at-unset, at-division, Place, before, stopped, run}
 use Rattle.machine.specs.Examples.{Summary, summary, store-of, event}
-use Rattle.machine.specs.All.{all-of-machine}
+use Rattle.machine.specs.Opened.{all-of-machine}
 
 -- a function by the types of its names and its blocks, what its names hold, the answers, how many blocks are run, and what the run shows
 pub record Case : Type 0 where

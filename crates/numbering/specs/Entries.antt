@@ -9,7 +9,7 @@ use Rattle.record.specs.Hex.{hex}
 use Rattle.record.specs.Text.{same-bytes}
 use Rattle.numbering.specs.Program.{output-with}
 use Rattle.numbering.specs.Rewrite.{rewrite-answer, rewrite, rewrite-leaves}
-use Rattle.numbering.specs.All.{all-of-numbering}
+use Rattle.numbering.specs.Opened.{all-of-numbering}
 
 -- the smallest record, and a record of version 2, which check refuses
 abbrev pub smallest : List ℕ

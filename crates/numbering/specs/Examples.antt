@@ -5,7 +5,7 @@ use mathlib.Core.List.{List, [], _∷_, map}
 use lib.ListN.{replicate}
 use Rattle.record.specs.Hex.{hex}
 use Rattle.numbering.specs.Program.{output-with}
-use Rattle.numbering.specs.All.{all-of-numbering}
+use Rattle.numbering.specs.Opened.{all-of-numbering}
 
 -- what the program writes, with a smaller buffer
 abbrev pub written : List ℕ → List ℕ

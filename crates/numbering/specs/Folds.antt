@@ -14,7 +14,7 @@ use Rattle.arith.specs.Operation.{Expr, constant, one, two}
 use Rattle.numbering.specs.declared.ValNum.{ValNum}
 use Rattle.numbering.specs.State.{vn, known-expr}
 use Rattle.numbering.specs.Simplify.{simplify}
-use Rattle.numbering.specs.All.{all-of-numbering}
+use Rattle.numbering.specs.Opened.{all-of-numbering}
 
 -- the numbers 0 to 4 are known, and 5 to 7 are not, though 7 is an int literal in a float
 abbrev pub values : List (Option (Expr ValNum))

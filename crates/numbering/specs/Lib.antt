@@ -13,4 +13,4 @@ pub mod Entries
 pub mod Parts
 pub mod Printed
 pub mod View
-pub mod All
+pub mod Opened

@@ -8,7 +8,7 @@ use lib.ListN.{replicate}
 use Rattle.record.specs.Answer.{Returned}
 use Rattle.record.specs.Hex.{hex}
 use Rattle.numbering.specs.NameText.{Part, bytes-of, name-answer, name-text}
-use Rattle.numbering.specs.All.{all-of-numbering}
+use Rattle.numbering.specs.Opened.{all-of-numbering}
 
 -- the number and values of the answer, the part and its bytes
 pub record Told : Type 0 where

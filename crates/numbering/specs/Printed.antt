@@ -7,7 +7,7 @@ use Rattle.record.specs.Hex.{hex}
 use Rattle.record.specs.declared.Refusal.the-variants.{Length, Place}
 use Rattle.numbering.specs.declared.Rewritten.the-variants.{Written, Refused, Room}
 use Rattle.numbering.specs.Program.{most-input, buffer-size, shown, output-with, program-output}
-use Rattle.numbering.specs.All.{all-of-numbering}
+use Rattle.numbering.specs.Opened.{all-of-numbering}
 
 pub sizes : (most-input ≡ 8192) × (buffer-size ≡ 65536)
 sizes = (refl, refl)

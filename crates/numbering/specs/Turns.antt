@@ -10,7 +10,7 @@ use Rattle.record.specs.Short.{gives, asks, set, does, tells, chooses, goes}
 use Rattle.record.specs.Tables.{count}
 use Rattle.numbering.specs.Number.{literal-for, block-lvn, lvn}
 use Rattle.numbering.specs.State.{start}
-use Rattle.numbering.specs.All.{all-of-numbering}
+use Rattle.numbering.specs.Opened.{all-of-numbering}
 
 -- arguments A, the types of the names, a block, and what is written of it
 abbrev pub Row : Type 0

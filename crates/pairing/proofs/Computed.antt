@@ -16,7 +16,7 @@ use Rattle.machine.specs.Machine.{Answer, value, go-on, at-end, at-ret, at-halt
 use Rattle.machine.specs.Examples.{Summary, summary, function-of, event, shows}
 use Rattle.pairing.specs.Demand.{next-block, stop, shown, saves-passed, saves-before, count-dests}
 use Rattle.pairing.proofs.Instances.{Case, function-in, first-run, second-run, Instance, meets, instance}
-use Rattle.pairing.specs.All.{all-of-pairing}
+use Rattle.pairing.specs.Opened.{all-of-pairing}
 
 -- C5: x = 5; y = 5; x = 6; print y
 abbrev pub c5 : List ℕ

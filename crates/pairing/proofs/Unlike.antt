@@ -20,7 +20,7 @@ use Rattle.pairing.specs.Demand.{Shown, next-block, stop, Agree, Starts,
 use Rattle.pairing.specs.Premises.{typed, first-set, all-same}
 use Rattle.pairing.specs.Wrong.{Case, run₁, run₂, Seen, seen₁, seen₂, event-id, event-code, event-callee, event-argument, event-arguments, event-order, event-ret, event-less, event-more, value-first, value-middle, value-last, value-for-nothing, nothing-for-value, value-bits, value-literal, next-block-other, end-or-block, none-or-block, stop-id, stop-cause, stop-kind, stop-halt, step-more, step-less, filed-more, filed-less, before-stop, behind-stop, filed-elsewhere, passed-other}
 use Rattle.pairing.proofs.Instances.{both, starts-from}
-use Rattle.pairing.specs.All.{all-of-pairing}
+use Rattle.pairing.specs.Opened.{all-of-pairing}
 
 -- ---- from tests that compute to what demand 3 says of one run
 -- the one place where the premise of demand 3 is used

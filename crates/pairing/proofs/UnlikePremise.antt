@@ -11,7 +11,7 @@ use Rattle.machine.specs.Examples.{store-of, function-of}
 use Rattle.pairing.specs.Demand.{Agree, RunAlike}
 use Rattle.pairing.proofs.Instances.{record-alike}
 use Rattle.pairing.proofs.Unlike.{told, held}
-use Rattle.pairing.specs.All.{all-of-pairing}
+use Rattle.pairing.specs.Opened.{all-of-pairing}
 
 -- "if the first run has read no unset name by then": z = 0; x = mul z u is accepted, and its rewriting has x = 0. The runs are alike where
 -- u holds something; where it holds nothing the first has read it, and they are not

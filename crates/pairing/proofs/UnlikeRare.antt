@@ -13,7 +13,7 @@ use Rattle.pairing.specs.Demand.{Starts, RunAlike}
 use Rattle.pairing.specs.Wrong.{seen₁, seen₂}
 use Rattle.pairing.specs.Rare.{copies-unread, copies-early, greatest-argument, rare-argument, false-argument, reads-made, greatest-answer, writes-early, behind-answers, takes-bool, second-block, behind-loop, ordinary}
 use Rattle.pairing.proofs.Unlike.{agree, alike, Unlike, told, first-word, held, where-shown}
-use Rattle.pairing.specs.All.{all-of-pairing}
+use Rattle.pairing.specs.Opened.{all-of-pairing}
 
 pub record Rare : Type 0 where
   pub unread : Unlike copies-unread

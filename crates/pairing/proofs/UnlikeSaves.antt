@@ -12,7 +12,7 @@ use Rattle.machine.specs.Machine.{at-end, at-ret, at-halt, at-division, before,
 use Rattle.record.specs.Short.{gives, goes}
 use Rattle.pairing.specs.Demand.{saves-field, body-of, saves-passed, saves-before, count-dests, SavesBounded}
 use Rattle.pairing.specs.Wrong.{const, print, nop, ret, id, saving, body, fn}
-use Rattle.pairing.specs.All.{all-of-pairing}
+use Rattle.pairing.specs.Opened.{all-of-pairing}
 
 -- ---- "No block has more saves than the same block of the input has instructions with a destination."
 -- three blocks: two instructions with a dest among four; none among three; one

@@ -9,13 +9,13 @@ use Rattle.arith.specs.Operation.{Expr}
 use Rattle.record.specs.declared.NameIx.{NameIx}
 use Rattle.record.specs.Record.{Instr, Block, Function, names-of, type-in}
 use Rattle.record.specs.Shape.{shape-of}
+use Rattle.record.specs.Good.{Each}
 use Rattle.record.specs.Form.{Form, pure, new, effect, return, nop, jump, branch, form}
 use Rattle.numbering.specs.Number.{reads}
 use Rattle.pairing.specs.Joint.{Typed}
 
 abbrev pub All : {A : Type 0} → (A → Type 0) → List A → Type 0
-All P [] = Unit {0}
-All P (x ∷ xs) = P x × All P xs
+All P xs = Each (λ left x. P x) xs
 
 -- whether it has a dest
 unfoldable pub writes : Form → Bool

@@ -6,4 +6,4 @@ pub mod Joint
 pub mod Fit
 pub mod Premises
 pub mod Progress
-pub mod All
+pub mod Opened

@@ -12,7 +12,7 @@ use Rattle.record.specs.Hex.{hex}
 use Rattle.record.specs.Text.{all-text, well-formed, undigited, reserved}
 use Rattle.record.specs.Refusals.{accepted, refused, says, with-length, otherwise}
 use Rattle.record.specs.Tables.{count, keep}
-use Rattle.record.specs.All.{all-of-record}
+use Rattle.record.specs.Opened.{all-of-record}
 
 -- a text as its bytes
 unfoldable pub spelled : String → List ℕ

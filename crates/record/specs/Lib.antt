@@ -23,4 +23,4 @@ pub mod Forms
 pub mod View
 pub mod Ranged
 pub mod Decode
-pub mod All
+pub mod Opened

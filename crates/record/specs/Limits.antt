@@ -9,7 +9,7 @@ use Rattle.record.specs.Hex.{hex}
 use Rattle.record.specs.Write.{be}
 use Rattle.record.specs.Refusals.{accepted, refused, says, with-length}
 use Rattle.record.specs.Tables.{count}
-use Rattle.record.specs.All.{all-of-record}
+use Rattle.record.specs.Opened.{all-of-record}
 
 -- n names with different texts of two letters
 abbrev pub many-names : ℕ → List ℕ

@@ -8,7 +8,7 @@ use Rattle.record.specs.Hex.{hex}
 use Rattle.record.specs.Refusals.{accepted, refused, says, with-length, otherwise}
 use Rattle.record.specs.Tables.{count, keep}
 use Rattle.record.specs.Letters.{bytes-for}
-use Rattle.record.specs.All.{all-of-record}
+use Rattle.record.specs.Opened.{all-of-record}
 
 -- a record with one name, of this type, which is given a literal of this kind
 abbrev pub given : ℕ → ℕ → String → Returned

@@ -9,7 +9,7 @@ use Rattle.record.specs.Hex.{hex}
 use Rattle.record.specs.Write.{be}
 use Rattle.record.specs.Refusals.{accepted, refused, says, with-length, otherwise}
 use Rattle.record.specs.Tables.{count, keep}
-use Rattle.record.specs.All.{all-of-record}
+use Rattle.record.specs.Opened.{all-of-record}
 
 -- ---- every field of a record: a int, c bool, d char; d = 'A'; a = add a a; a = call 7 (c); br c to block 0 or 1; call 7 ()
 -- each with the answer where it and all behind it is FF. An id and a callee may be that: then the next code is refused

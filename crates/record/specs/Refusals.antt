@@ -11,7 +11,7 @@ use Rattle.record.specs.Hex.{hex}
 use Rattle.record.specs.Tables.{keep}
 use Rattle.record.specs.Text.{same-bytes}
 use Rattle.record.specs.Write.{be}
-use Rattle.record.specs.All.{all-of-record}
+use Rattle.record.specs.Opened.{all-of-record}
 
 -- the answer of check, and its number and offset
 abbrev pub accepted : Returned

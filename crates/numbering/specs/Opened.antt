@@ -1,5 +1,5 @@
 -- One name for the definitions that examples of rewritings compute with: `unfolding all-of-numbering` unfolds each of them.
-use Rattle.record.specs.All.{all-of-record}
+use Rattle.record.specs.Opened.{all-of-record}
 use Rattle.numbering.specs.State.{start, new-number, update-env, rehome, see, gen-new-vals, number-of, home-of, known-value, known-expr, known}
 use Rattle.numbering.specs.Simplify.{folded, fold1, fold2, is-int, is-bool, identity, ordered, simplify1, simplify2, simplify}
 use Rattle.numbering.specs.Number.{reads, numbered, make-val, val-to-instr, save, save-at, handle-overwrite, find, get-val-num, number-dest, place, by-form, instr-lvn, block-lvn, is-save, count-saves, blocks-lvn, saved-in, made-from, lvn}

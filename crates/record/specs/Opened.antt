@@ -1,5 +1,5 @@
 -- One name for the definitions that examples of records compute with: `unfolding all-of-record` unfolds each of them.
-use Rattle.arith.specs.All.{all-of-arith}
+use Rattle.arith.specs.Opened.{all-of-arith}
 use Rattle.record.specs.Hex.{digit-value, bytes-from, hex}
 use Rattle.record.specs.Record.{type-in, id-bytes}
 use Rattle.record.specs.Text.{all-text, well-formed, undigited, reserved, same-bytes, among}
