@@ -5,6 +5,7 @@ use mathlib.Core.Bool.{Bool, true, false, _&&_}
 use mathlib.Core.List.{List, [], _∷_}
 use mathlib.Core.Option.{Option, none, some}
 use native.Mathlib.Omega.{arith}
+use mir.Facts.{and-yes}
 use lib.ListN.{getD}
 use lib.Dec.{T, ltb, ltb→lt}
 use lib.Ieee.Bits.{is-true}
@@ -24,14 +25,10 @@ use Rattle.pairing.specs.Demand.{Starts, Agree, RunAlike}
 use Rattle.pairing.specs.Premises.{accepted, are-bytes, value-fits, typed, first-set, same-value, all-same}
 
 -- ---- tests and facts
-pub both : (a b : Bool) → T (a && b) → T a × T b
-both true b t = (tt, t)
-both false b t = absurd t
-
 bytes-are : (s : List ℕ) → T (are-bytes s) → Bytes s
 unfolding are-bytes
 bytes-are [] t = tt
-bytes-are (b ∷ s) t = let (x, y) = both (ltb b 256) (are-bytes s) t in (ltb→lt b 256 x, bytes-are s y)
+bytes-are (b ∷ s) t = let (x, y) = and-yes (ltb b 256) (are-bytes s) t in (ltb→lt b 256 x, bytes-are s y)
 
 fits-value : (t : ℕ) (o : Option Val) → T (value-fits t o) → (v : Val) → o ≡ some v → HasType t v
 fits-value t none p v e = clash (cc)
@@ -41,19 +38,19 @@ typed-at : (ts : List ℕ) (vs : List (Option Val)) → T (typed ts vs) → (n :
 unfolding typed
 typed-at ts [] p n v e = clash (cc)
 typed-at [] (o ∷ vs) p n v e = absurd p
-typed-at (t ∷ ts) (o ∷ vs) p zero v e = fits-value t o (both (value-fits t o) (typed ts vs) p .0) v e
-typed-at (t ∷ ts) (o ∷ vs) p (suc n) v e = typed-at ts vs (both (value-fits t o) (typed ts vs) p .1) n v e
+typed-at (t ∷ ts) (o ∷ vs) p zero v e = fits-value t o (and-yes (value-fits t o) (typed ts vs) p .0) v e
+typed-at (t ∷ ts) (o ∷ vs) p (suc n) v e = typed-at ts vs (and-yes (value-fits t o) (typed ts vs) p .1) n v e
 
 set-at : (n : ℕ) (vs : List (Option Val)) → T (first-set n vs) → (x : ℕ) → x < n → (v : Val) × (getD vs x none ≡ some v)
 unfolding first-set is-set
 set-at zero vs t x l = absurd (let z : 0 < 0 = omega arith in omega arith)
 set-at (suc n) [] t x l = absurd t
-set-at (suc n) (o ∷ vs) t zero l = held o (both (is-set o) (first-set n vs) t .0)
+set-at (suc n) (o ∷ vs) t zero l = held o (and-yes (is-set o) (first-set n vs) t .0)
   where
     held : (o : Option Val) → T (is-set o) → (v : Val) × (o ≡ some v)
     held none p = absurd p
     held (some v) p = (v, refl)
-set-at (suc n) (o ∷ vs) t (suc x) l = set-at n vs (both (is-set o) (first-set n vs) t .1) x (omega arith)
+set-at (suc n) (o ∷ vs) t (suc x) l = set-at n vs (and-yes (is-set o) (first-set n vs) t .1) x (omega arith)
 
 same-values : (o p : Option Val) → T (same-value o p) → p ≡ o
 same-values none none t = refl
@@ -70,8 +67,8 @@ unfolding all-same
 same-at zero vs ws t x l = absurd (let z : 0 < 0 = omega arith in omega arith)
 same-at (suc n) [] ws t x l = absurd t
 same-at (suc n) (o ∷ vs) [] t x l = absurd t
-same-at (suc n) (o ∷ vs) (p ∷ ws) t zero l = same-values o p (both (same-value o p) (all-same n vs ws) t .0)
-same-at (suc n) (o ∷ vs) (p ∷ ws) t (suc x) l = same-at n vs ws (both (same-value o p) (all-same n vs ws) t .1) x (omega arith)
+same-at (suc n) (o ∷ vs) (p ∷ ws) t zero l = same-values o p (and-yes (same-value o p) (all-same n vs ws) t .0)
+same-at (suc n) (o ∷ vs) (p ∷ ws) t (suc x) l = same-at n vs ws (and-yes (same-value o p) (all-same n vs ws) t .1) x (omega arith)
 
 -- ---- the premises from the tests
 pub starts-from :
@@ -130,11 +127,11 @@ meets c =
 pub instance : (c : Case) → T (meets c) → Instance c
 instance c t =
     let f = function-in c in
-    let (b, t₁) = both (are-bytes (c .bytes)) _ t in
-    let (a, t₂) = both (accepted (accept limits (c .bytes))) _ t₁ in
-    let (ty, t₃) = both (typed (f .types) (c .first)) _ t₂ in
-    let (st, t₄) = both (first-set (f .args) (c .first)) _ t₃ in
-    let (sa, q) = both (all-same (names-of f) (c .first) (c .second)) _ t₄ in
+    let (b, t₁) = and-yes (are-bytes (c .bytes)) _ t in
+    let (a, t₂) = and-yes (accepted (accept limits (c .bytes))) _ t₁ in
+    let (ty, t₃) = and-yes (typed (f .types) (c .first)) _ t₂ in
+    let (st, t₄) = and-yes (first-set (f .args) (c .first)) _ t₃ in
+    let (sa, q) = and-yes (all-same (names-of f) (c .first) (c .second)) _ t₄ in
     record {
       alike =
           record-alike (c .bytes) b a (store-of (c .first)) (store-of (c .second)) (starts-from f (c .first) (c .second) ty st sa)

@@ -3,9 +3,10 @@
 use Prim.Native.Nat.{ℕ, suc, _≤_, _<_}
 use mathlib.Core.Path.{_≡_, refl, sym, ap, _∙_, subst}
 use mathlib.Core.Logic.{_≢_}
-use mathlib.Core.Bool.{Bool, true, false, _&&_, cond}
+use mathlib.Core.Bool.{Bool, true, false, cond}
 use mathlib.Core.Option.{Option, none, some, Option·none-ne-some, Option·some-injective}
 use native.Mathlib.Omega.{arith}
+use lib.Ieee.Fits.{and-r}
 use lib.Dec.{T, eqb, ltb}
 use borrow.Author.Tests.{ltb-true, lt-ltb, le-ltb}
 use Rattle.arith.specs.Map.{upd}
@@ -37,11 +38,7 @@ pub record Related (Γ : Setting) (j : Joint) (ρ : Valuation) (σ₁ σ₂ : St
   pub base : StartsIn Γ σ₁ σ₂
 
 pub typed-ranged : (t : ℕ) (v : Val) → HasType t v → T (inRange v)
-typed-ranged t v h = right (eqb (typeOf v) t) (inRange v) h
-  where
-    right : (a b : Bool) → T (a && b) → T b
-    right true b h = h
-    right false b h = absurd h
+typed-ranged t v h = and-r (eqb (typeOf v) t) (inRange v) h
 
 -- ---- a number more
 other-number : (n : ValNum) (k : ℕ) → suc k ≤ n .0 → n ≢ vn k

@@ -3,6 +3,7 @@ use Prim.Native.Nat.{ℕ, _<_}
 use mathlib.Core.Path.{_≡_, refl, subst}
 use mathlib.Core.Bool.{Bool, true, false, not, cond, _&&_}
 use mathlib.Core.Option.{Option, none, some}
+use lib.Ieee.Fits.{and-l}
 use lib.Dec.{T, ltb, eqb, eqb→eq, lt→ltb}
 use Rattle.arith.specs.declared.One.the-variants.{Not, Id}
 use Rattle.arith.specs.declared.Two.{Two}
@@ -44,11 +45,7 @@ with-both-yields P (some a) (some b) f h = h a b refl refl
 
 -- ---- values of a type
 pub type-is : (d : ℕ) (v : Val) → HasType d v → typeOf v ≡ d
-type-is d v h = eqb→eq (typeOf v) d (left (eqb (typeOf v) d) (inRange v) h)
-  where
-    left : (a b : Bool) → T (a && b) → T a
-    left true b h = tt
-    left false b h = h
+type-is d v h = eqb→eq (typeOf v) d (and-l (eqb (typeOf v) d) (inRange v) h)
 
 both : (a b c : Bool) → T (a && b) → (T b → T c) → T (a && c)
 both true b c h f = f h

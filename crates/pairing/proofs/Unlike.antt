@@ -6,6 +6,7 @@ use mathlib.Core.Bool.{Bool, cond, not, _&&_}
 use mathlib.Core.List.{List, [], _∷_, map}
 use mathlib.Core.Option.{Option, none, some}
 use native.Mathlib.Omega.{arith}
+use mir.Facts.{and-yes}
 use lib.ListN.{length, getD}
 use lib.Dec.{T, T-not, eqb, eqb-refl}
 use lib.Ieee.Bits.{is-true}
@@ -19,7 +20,7 @@ use Rattle.machine.specs.Examples.{store-of, event}
 use Rattle.pairing.specs.Demand.{Shown, next-block, stop, Agree, Starts, RunAlike}
 use Rattle.pairing.specs.Premises.{typed, first-set, all-same}
 use Rattle.pairing.specs.Wrong.{Case, run₁, run₂, Seen, seen₁, seen₂, event-id, event-code, event-callee, event-argument, event-arguments, event-order, event-ret, event-less, event-more, value-first, value-middle, value-last, value-for-nothing, nothing-for-value, value-bits, value-literal, next-block-other, end-or-block, none-or-block, stop-id, stop-cause, stop-kind, stop-halt, step-more, step-less, filed-more, filed-less, before-stop, behind-stop, filed-elsewhere, passed-other}
-use Rattle.pairing.proofs.Instances.{both, starts-from}
+use Rattle.pairing.proofs.Instances.{starts-from}
 use Rattle.pairing.specs.Opened.{all-of-pairing}
 
 -- ---- from tests that compute to what demand 3 says of one run
@@ -47,9 +48,9 @@ pub alike :
     (c : Case) → T (ready c) → RunAlike (c .first) (c .second) →
     Agree (names-of (c .first)) (c .second .blocks) (run₁ c) (run₂ c)
 alike c t h =
-    let (ty, t₁) = both (typed (c .first .types) (c .start₁)) _ t in
-    let (st, t₂) = both (first-set (c .first .args) (c .start₁)) _ t₁ in
-    let (sa, q) = both (all-same (names-of (c .first)) (c .start₁) (c .start₂)) _ t₂ in
+    let (ty, t₁) = and-yes (typed (c .first .types) (c .start₁)) _ t in
+    let (st, t₂) = and-yes (first-set (c .first .args) (c .start₁)) _ t₁ in
+    let (sa, q) = and-yes (all-same (names-of (c .first)) (c .start₁) (c .start₂)) _ t₂ in
     agree (c .first) (c .second) (store-of (c .start₁)) (store-of (c .start₂)) (c .world) (c .many)
     (starts-from (c .first) (c .start₁) (c .start₂) ty st sa) q h
 
