@@ -10,7 +10,7 @@ use lib.Ieee.Fits.{and-r}
 use lib.Dec.{T, eqb, ltb}
 use borrow.Author.Tests.{ltb-true, lt-ltb, le-ltb}
 use Rattle.arith.specs.Map.{upd}
-use Rattle.arith.proofs.Map.{upd-same, upd-other, upd-ind}
+use Rattle.arith.proofs.Map.{upd-same, upd-other, upd-alike, upd-ind}
 use Rattle.arith.specs.Value.{Val, typeOf, inRange, HasType}
 use Rattle.arith.specs.Operation.{ok, Expr, eval}
 use Rattle.record.specs.declared.NameIx.{NameIx}
@@ -19,6 +19,7 @@ use Rattle.numbering.specs.declared.ValNum.{ValNum}
 use Rattle.numbering.specs.State.{vn, ValNum-discrete, start-env}
 use Rattle.machine.specs.Machine.{Store}
 use Rattle.pairing.specs.Joint.{Setting, Joint, push, set-both, set-second, fresh, Numbers, old, fresh-value, Fits, InRange, start-joint}
+use Rattle.pairing.proofs.Stores.{assign-typed}
 use Rattle.pairing.proofs.Valuation.{Valuation, ok-not-unset, Grows, eval-grows, Located, Locates, locates-grows, has-value}
 
 -- ---- the relations
@@ -175,18 +176,11 @@ starts-store :
     StartsIn Γ (store σ₁ d v) (store σ₂ d v)
 starts-store Γ σ₁ σ₂ d v h s =
     record {
-      typed =
-          λ x l w.
-          upd-ind NameIx-discrete σ₁ d (some v) x (λ o. o ≡ some w → HasType (Γ .ctx .types x) w)
-          (λ e p. rw e (subst (λ (z : Val). HasType (Γ .ctx .types d) z) (Option·some-injective v w p) h))
-          (λ e p. s .typed x l w p);
+      typed = assign-typed (Γ .names) (Γ .ctx) σ₁ d v (s .typed) h;
       set =
           λ x l.
           upd-ind NameIx-discrete σ₁ d (some v) x (λ o. (w : Val) × (o ≡ some w)) (λ e. (v, refl)) (λ e. s .set x l);
-      same =
-          λ x l.
-          upd-ind NameIx-discrete σ₁ d (some v) x (λ o. store σ₂ d v x ≡ o) (λ e. upd-same NameIx-discrete σ₂ d (some v) x e)
-          (λ e. upd-other NameIx-discrete σ₂ d (some v) x e ∙ s .same x l);
+      same = λ x l. upd-alike NameIx-discrete σ₁ σ₂ d (some v) x (s .same x l);
     }
 
 module _ (Γ : Setting) (j : Joint) (ρ : Valuation) (σ₁ σ₂ : Store) (R : Related Γ j ρ σ₁ σ₂) where
