@@ -6,6 +6,7 @@ pub mod Rewrite
 pub mod NameText
 pub mod Ways
 pub mod Program
+pub mod Opened
 pub mod Examples
 pub mod Folds
 pub mod Turns
@@ -13,4 +14,3 @@ pub mod Entries
 pub mod Parts
 pub mod Printed
 pub mod View
-pub mod Opened

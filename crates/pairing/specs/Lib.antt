@@ -1,4 +1,5 @@
 pub mod Demand
+pub mod Opened
 pub mod Contract
 pub mod Wrong
 pub mod Rare
@@ -6,4 +7,3 @@ pub mod Joint
 pub mod Fit
 pub mod Premises
 pub mod Progress
-pub mod Opened

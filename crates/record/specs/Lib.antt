@@ -10,6 +10,7 @@ pub mod Form
 pub mod Answer
 pub mod Hex
 pub mod Good
+pub mod Opened
 pub mod Refusals
 pub mod Tables
 pub mod Depths
@@ -23,4 +24,3 @@ pub mod Forms
 pub mod View
 pub mod Ranged
 pub mod Decode
-pub mod Opened
