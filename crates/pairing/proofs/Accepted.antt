@@ -3,7 +3,7 @@
 use Prim.Native.Nat.{ℕ, _<_, _^_}
 use mathlib.Core.Path.{_≡_, refl, sym, ap, _∙_, subst}
 use mathlib.Core.List.{List, [], _∷_}
-use mathlib.Core.Bool.{Bool, true, false, not, _&&_, _||_}
+use mathlib.Core.Bool.{Bool, true, false, not, _||_}
 use native.Mathlib.Omega.{arith}
 use lib.ListN.{length, length-map}
 use lib.Dec.{T, eqb}
@@ -23,14 +23,15 @@ use Rattle.record.specs.Form.{Form, pure, branch, form, value-of}
 use Rattle.record.specs.Typing.{well-typed, accept}
 use Rattle.record.specs.Good.{Each, OperandsOk, InstrOk, BlockOk, RecordOk}
 use Rattle.record.specs.Ranged.{RangedInstr, RangedBlock, Ranged}
-use Rattle.record.proofs.Tests.{and-left, and-right, at-most-le, names-args, code-known, code-last}
+use Rattle.record.proofs.Tests.{at-most-le, names-args, code-known, code-last}
 use Rattle.record.proofs.Form.{FormOf, of-constant, of-one, of-two, of-new, of-jump, of-branch, of-return, of-nop, of-effect, form-of, all-below, at-known}
 use Rattle.record.proofs.Accepted.{read-ok}
 use Rattle.record.proofs.Ranged.{read-ranged}
 use Rattle.record.proofs.Typed.{TypedBody, TypedFunction, accept-typed}
-use Rattle.numbering.proofs.Codes.{dest-below, reads-args, reads-below}
+use Rattle.numbering.proofs.Codes.{reads-args, reads-below, instr-original}
 use Rattle.pairing.specs.Joint.{Typed}
-use Rattle.pairing.specs.Fit.{All, writes, terminates, FitInstr, FitBody, FitFunction}
+use Rattle.pairing.specs.Demand.{All}
+use Rattle.pairing.proofs.Fit.{terminates, FitInstr, FitBody, FitFunction}
 use Rattle.pairing.proofs.Rules.{one-typed, two-typed, fits-rule, branch-rule, constant-typed}
 
 -- ---- forms and shapes agree
@@ -48,11 +49,11 @@ abbrev recode : Instr → ℕ → Instr
 recode i c = record { id = i .id; code = c; dest = i .dest; lit = i .lit; args = i .args; callee = i .callee; blocks = i .blocks }
 
 abbrev agree : (NameIx → ℕ) → Instr → ℕ → Bool
-agree t i c = same (shape-of c .dest) (writes (form t (recode i c))) && same (shape-of c .last) (terminates (form t (recode i c)))
+agree t i c = same (shape-of c .last) (terminates (form t (recode i c)))
 
 -- computed at each code of the tables
 codes-agree : (t : NameIx → ℕ) (i : Instr) → all-below 72 (λ c. not (shape-of c .known) || agree t i c) ≡ true
-unfolding shape-of form writes terminates one-of two-of with-code code1 code2
+unfolding shape-of form terminates one-of two-of with-code code1 code2
 codes-agree t i = refl
 
 -- ---- lists
@@ -62,14 +63,8 @@ empty (x ∷ xs) e = absurd (omega arith)
 
 -- ---- an instruction that passes its tests
 module _ {N B left : ℕ} (t : NameIx → ℕ) (i : Instr) (ok : InstrOk N B left i) where
-  agrees : agree t i (i .code) ≡ true
-  agrees = at-known (agree t i) (codes-agree t i) (i .code) (code-known (eqb left 0) (i .code) (ok .code))
-
-  dest-writes : shape-of (i .code) .dest ≡ writes (form t i)
-  dest-writes = same-eq _ _ (and-left (same (shape-of (i .code) .dest) (writes (form t i))) _ agrees)
-
   last-terminates : shape-of (i .code) .last ≡ terminates (form t i)
-  last-terminates = same-eq _ _ (and-right (same (shape-of (i .code) .dest) (writes (form t i))) _ agrees)
+  last-terminates = same-eq _ _ (at-known (agree t i) (codes-agree t i) (i .code) (code-known (eqb left 0) (i .code) (ok .code)))
 
   -- a terminator has nothing behind it
   stands-last : T (terminates (form t i)) → left ≡ 0
@@ -81,9 +76,6 @@ module _ {N B left : ℕ} (t : NameIx → ℕ) (i : Instr) (ok : InstrOk N B lef
   -- what follows a code of the shape sh
   operands-of : (sh : Shape) → shape-of (i .code) ≡ sh → OperandsOk N B sh i
   operands-of sh e = subst (λ (z : Shape). OperandsOk N B z i) e (ok .rest)
-
-  dest-fits : T (writes (form t i)) → i .dest .0 < N
-  dest-fits h = dest-below N B left i ok (dest-writes ∙ is-true (writes (form t i)) h)
 
   -- ---- types
   module _ (range : i .lit .bits < 256 ^ 8) (rule : well-typed t i ≡ true) where
@@ -127,8 +119,7 @@ module _ {N B left : ℕ} (t : NameIx → ℕ) (i : Instr) (ok : InstrOk N B lef
         record {
           args = reads-below N B left t i ok;
           all-read = reads-args N B left t i ok;
-          dest = dest-fits;
-          shape = dest-writes;
+          original = instr-original N B left t i ok;
           typed = form-typed (form-of t i);
           tested = form-tested (form-of t i);
         }

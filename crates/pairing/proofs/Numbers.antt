@@ -17,7 +17,7 @@ use Rattle.numbering.specs.declared.ValNum.{ValNum}
 use Rattle.numbering.specs.State.{vn, ValNum-discrete, State, number-of, home-of, known}
 use Rattle.numbering.specs.Number.{operands, same-expr, find, get-val-num}
 use Rattle.pairing.specs.Joint.{Setting, Has, by-id, by-value, number, number-all, Typed, Elem, first, later}
-use Rattle.pairing.specs.Fit.{All}
+use Rattle.pairing.specs.Demand.{All}
 use Rattle.pairing.proofs.Valuation.{all-elem}
 use Rattle.pairing.proofs.Simplify.{known-expr-is}
 use Rattle.pairing.proofs.SimplifyTypes.{TypedBy, KnownBy}

@@ -14,13 +14,16 @@ use Rattle.arith.specs.Value.{Val}
 use Rattle.arith.specs.Operation.{Expr, constant, one, two}
 use Rattle.record.specs.declared.NameIx.{NameIx}
 use Rattle.record.specs.Record.{NameIx-discrete, Instr}
+use Rattle.record.specs.Shape.{shape-of}
 use Rattle.record.specs.Form.{Form, pure, new, effect, return, nop, jump, branch, form}
 use Rattle.numbering.specs.declared.ValNum.{ValNum}
 use Rattle.numbering.specs.State.{vn, ValNum-discrete, State, start-env, start, new-number, update-env, see-at, see as see-name, gen-new-vals, number-of, home-of, known}
 use Rattle.numbering.specs.Simplify.{simplify}
 use Rattle.numbering.specs.Number.{reads, operands, numbered, make-val, make-id-instr, rewrite-instr, val-to-instr, Saved, no-save, handle-overwrite, get-val-num, Emitted, number-dest, place, by-form, instr-lvn, block-lvn}
+use Rattle.numbering.proofs.Saves.{Dests}
 use Rattle.pairing.specs.Joint.{Setting, Joint, fresh, Has, by-id, by-value, old, fresh-value, number, Stands, Typed, Elem, first, later, SameDest, Performed, Paired, done, see, pair-pure, pair-constant, pair-new, pair-effect, pair-nop, pair-jump, pair-branch, pair-return, start-joint}
-use Rattle.pairing.specs.Fit.{All, writes, terminates, FitInstr, FitBody}
+use Rattle.pairing.specs.Demand.{All}
+use Rattle.pairing.proofs.Fit.{terminates, FitInstr, FitBody}
 use Rattle.pairing.proofs.Simplify.{known-expr-is, simplify-stands}
 use Rattle.pairing.proofs.SimplifyTypes.{TypedBy, simplify-typed}
 use Rattle.pairing.proofs.Homes.{TypedNumber, Housed, home-number, housed-new, housed-set, housed-start, seen-all}
@@ -283,44 +286,42 @@ form-paired :
     (Γ : Setting) (i : Instr) (is : List Instr) → Performed (Γ .ctx) i → FitInstr (Γ .names) (Γ .ctx .types) i →
     Follows Γ is (behind Γ is) →
     (s : State) (env₂ : NameIx → Option ValNum) → Housed Γ s env₂ →
-    (f : Form) → form (Γ .ctx .types) i ≡ f → (T (terminates f) → is ≡ []) →
+    (f : Form) → form (Γ .ctx .types) i ≡ f → Dests (Γ .names) (shape-of (i .code) .dest) (i .dest) f → (T (terminates f) → is ≡ []) →
     Given Γ s (reads f) →
     MadeTypes Γ (emitted (behind Γ is) (by-form (Γ .names) s (rewrite-instr s (reads f) i) f)) →
     Paired Γ (joint-of s env₂) (i ∷ is) (emitted (behind Γ is) (by-form (Γ .names) s (rewrite-instr s (reads f) i) f))
-unfolding by-form reads writes terminates
-form-paired Γ i is performed fit follows s env₂ g (pure e) f last given types =
-    pure-paired Γ i is (behind Γ is) follows s env₂ g (subst (λ z. T (writes z) → i .dest .0 < Γ .names) f (fit .dest) tt) e f
-    (fit .typed e f) given types
-form-paired Γ i is performed fit follows s env₂ g (new xs) f last given types =
-    let l : i .dest .0 < Γ .names = subst (λ z. T (writes z) → i .dest .0 < Γ .names) f (fit .dest) tt in
-    new-paired Γ i is (behind Γ is) follows s env₂ g l xs types
+unfolding by-form reads terminates
+form-paired Γ i is performed fit follows s env₂ g (pure e) f d last given types =
+    pure-paired Γ i is (behind Γ is) follows s env₂ g (d .1) e f (fit .typed e f) given types
+form-paired Γ i is performed fit follows s env₂ g (new xs) f d last given types =
+    new-paired Γ i is (behind Γ is) follows s env₂ g (d .1) xs types
     (λ env₂′ locs k ks before p. pair-new xs (map (home-of s) xs) (map (number-of s) xs) f (rewritten-form (Γ .ctx .types) s i (new xs) f)
-    (record { id = refl; code = refl; dest = refl; callee = refl }) (original-not-save (Γ .names) (rewrite-instr s xs i) l) l performed
+    (record { id = refl; code = refl; dest = refl; callee = refl }) (original-not-save (Γ .names) (rewrite-instr s xs i) (d .1)) (d .1) performed
     (number-all-seen Γ s xs given) (number-all-homes Γ s env₂′ before xs given) p)
-form-paired Γ i is performed fit follows s env₂ g (effect xs) f last given types =
+form-paired Γ i is performed fit follows s env₂ g (effect xs) f d last given types =
     pair-effect xs (map (home-of s) xs) (map (number-of s) xs) f (rewritten-form (Γ .ctx .types) s i (effect xs) f)
     (record { id = refl; code = refl; dest = refl; callee = refl })
-    (effect-not-save (Γ .names) (rewrite-instr s xs i) (fit .shape ∙ ap writes f))
+    (effect-not-save (Γ .names) (rewrite-instr s xs i) d)
     (number-all-seen Γ s xs given) (number-all-homes Γ s env₂ (g .homes) xs given) (follows s (types .1) env₂ g)
-form-paired Γ i is performed fit follows s env₂ g (return xs) f last given types =
+form-paired Γ i is performed fit follows s env₂ g (return xs) f d last given types =
     last-paired Γ (joint-of s env₂) i (rewrite-instr s xs i) is s (last tt)
     (pair-return xs (map (home-of s) xs) (map (number-of s) xs) f (rewritten-form (Γ .ctx .types) s i (return xs) f)
     (record { id = refl; code = refl; dest = refl; callee = refl })
-    (effect-not-save (Γ .names) (rewrite-instr s xs i) (fit .shape ∙ ap writes f))
+    (effect-not-save (Γ .names) (rewrite-instr s xs i) d)
     (number-all-seen Γ s xs given) (number-all-homes Γ s env₂ (g .homes) xs given))
-form-paired Γ i is performed fit follows s env₂ g nop f last given types =
-    pair-nop f (rewritten-form (Γ .ctx .types) s i nop f) (effect-not-save (Γ .names) (rewrite-instr s [] i) (fit .shape ∙ ap writes f))
+form-paired Γ i is performed fit follows s env₂ g nop f d last given types =
+    pair-nop f (rewritten-form (Γ .ctx .types) s i nop f) (effect-not-save (Γ .names) (rewrite-instr s [] i) d)
     (follows s (types .1) env₂ g)
-form-paired Γ i is performed fit follows s env₂ g (jump b) f last given types =
+form-paired Γ i is performed fit follows s env₂ g (jump b) f d last given types =
     last-paired Γ (joint-of s env₂) i (rewrite-instr s [] i) is s (last tt)
     (pair-jump b f (rewritten-form (Γ .ctx .types) s i (jump b) f)
-    (effect-not-save (Γ .names) (rewrite-instr s [] i) (fit .shape ∙ ap writes f)))
-form-paired Γ i is performed fit follows s env₂ g (branch x b c) f last given types =
+    (effect-not-save (Γ .names) (rewrite-instr s [] i) d))
+form-paired Γ i is performed fit follows s env₂ g (branch x b c) f d last given types =
     let (n, p, t) = given x first in
     let home : env₂ (home-of s x) ≡ some n = home-number-of Γ s env₂ (g .homes) (x ∷ []) given x first ∙ ap some (number-is s x n p) in
     last-paired Γ (joint-of s env₂) i (rewrite-instr s (x ∷ []) i) is s (last tt)
     (pair-branch x (home-of s x) n b c f (rewritten-form (Γ .ctx .types) s i (branch x b c) f)
-    (effect-not-save (Γ .names) (rewrite-instr s (x ∷ []) i) (fit .shape ∙ ap writes f)) p home)
+    (effect-not-save (Γ .names) (rewrite-instr s (x ∷ []) i) d) p home)
 
 -- ---- blocks
 block-paired-from :
@@ -331,7 +332,7 @@ block-paired-from Γ performed [] fit s types = λ env₂ g. done
 block-paired-from Γ performed (i ∷ is) (fit, (last, fits)) s types =
     see-paired Γ i is (behind Γ (i ∷ is) s) xs (λ x h. h) (fit .args) s
     (λ env₂ g. form-paired Γ i is (performed i) fit (block-paired-from Γ performed is fits) (gen-new-vals s xs) env₂ g
-    (form (Γ .ctx .types) i) refl last (seen-given Γ (gen-new-vals s xs) env₂ xs g (fit .args) (seen-all xs s)) types)
+    (form (Γ .ctx .types) i) refl (fit .original) last (seen-given Γ (gen-new-vals s xs) env₂ xs g (fit .args) (seen-all xs s)) types)
   where
     xs : List NameIx
     xs = reads (form (Γ .ctx .types) i)

@@ -16,8 +16,9 @@ use Rattle.numbering.specs.Number.{operands, reads}
 use Rattle.machine.specs.Machine.{Store, Context, Answer, value, go-on, halt, Event, Stop, at-unset, Mach, Step, goes, jumps, ends, tick, assign, happens, read-all, event-of, finish, take-value, answered, perform, ask, acknowledged, tell, leave, choose, bool-in, act, step}
 use Rattle.machine.specs.Reached.{is-set, all-set}
 use Rattle.pairing.specs.Joint.{Typed, Performed}
-use Rattle.pairing.specs.Fit.{All, FitInstr}
+use Rattle.pairing.proofs.Fit.{FitInstr}
 use Rattle.pairing.specs.Progress.{not-unset}
+use Rattle.pairing.specs.Demand.{All}
 use Rattle.pairing.proofs.Typing.{eval-typed}
 use Rattle.pairing.proofs.Valuation.{all-elem}
 use Rattle.pairing.proofs.Operands.{given, bool-held, TypedIn, eval-given, there, read-given}

@@ -14,7 +14,7 @@ use Rattle.numbering.specs.declared.ValNum.{ValNum}
 use Rattle.numbering.specs.Number.{operands}
 use Rattle.machine.specs.Machine.{Store, read-cons, read-all}
 use Rattle.pairing.specs.Joint.{Has, by-id, by-value, map₁, map₂, number, number-all, Fits, Elem, first, later}
-use Rattle.pairing.specs.Fit.{All}
+use Rattle.pairing.specs.Demand.{All}
 
 abbrev pub Valuation : Type 0
 Valuation = ValNum → Option Val
