@@ -28,23 +28,19 @@ with-both-set (some a) none f h = absurd (h refl)
 with-both-set (some a) (some b) f h = (a, b, refl, refl)
 
 -- ---- and of the operator's type: P of two operands holds if it holds of two such
-asInt-is : (v : Val) (w : ℕ) → asInt v ≡ some w → int w ≡ v
-unfolding asInt
-asInt-is (int n) w e = cc
-asInt-is (float n) w e = cc
-asInt-is (literal n) w e = cc
-asInt-is (char n) w e = cc
-asInt-is (bool b) w e = cc
-asInt-is (pointer t b o) w e = cc
+-- what is taken for an int or a bool is one
+record Taken (v : Val) : Type 0 where
+  as-int : (w : ℕ) → asInt v ≡ some w → int w ≡ v
+  as-bool : (c : Bool) → asBool v ≡ some c → bool c ≡ v
 
-asBool-is : (v : Val) (c : Bool) → asBool v ≡ some c → bool c ≡ v
-unfolding asBool
-asBool-is (int n) c e = cc
-asBool-is (float n) c e = cc
-asBool-is (literal n) c e = cc
-asBool-is (char n) c e = cc
-asBool-is (bool b) c e = cc
-asBool-is (pointer t b o) c e = cc
+taken : (v : Val) → Taken v
+unfolding asInt asBool
+taken (int n) = record { as-int = λ w e. cc; as-bool = λ c e. cc }
+taken (float n) = record { as-int = λ w e. cc; as-bool = λ c e. cc }
+taken (literal n) = record { as-int = λ w e. cc; as-bool = λ c e. cc }
+taken (char n) = record { as-int = λ w e. cc; as-bool = λ c e. cc }
+taken (bool b) = record { as-int = λ w e. cc; as-bool = λ c e. cc }
+taken (pointer t b o) = record { as-int = λ w e. cc; as-bool = λ c e. cc }
 
 pub ints-set :
     (u v : Val) (f : ℕ → ℕ → Result) (P : Val → Val → Type 0) →
@@ -53,7 +49,7 @@ pub ints-set :
     P u v
 ints-set u v f P g h =
     let (m, n, p, q) = with-both-set (asInt u) (asInt v) f h in
-    subst₂ P (asInt-is u m p) (asInt-is v n q) (g m n)
+    subst₂ P (taken u .as-int m p) (taken v .as-int n q) (g m n)
 
 pub bools-set :
     (u v : Val) (f : Bool → Bool → Result) (P : Val → Val → Type 0) →
@@ -62,7 +58,7 @@ pub bools-set :
     P u v
 bools-set u v f P g h =
     let (b, c, p, q) = with-both-set (asBool u) (asBool v) f h in
-    subst₂ P (asBool-is u b p) (asBool-is v c q) (g b c)
+    subst₂ P (taken u .as-bool b p) (taken v .as-bool c q) (g b c)
 
 shift-set : (u : Val) (k : ℕ) (P : Val → Type 0) → ((t b o : ℕ) → P (pointer t b o)) → shift u k ≢ unset → P u
 unfolding shift
@@ -81,7 +77,7 @@ pub pointer-set :
 unfolding apply2 with-one
 pointer-set u v P g h =
     let (k, p) = with-one-set (asInt v) (shift u) h in
-    subst (P u) (asInt-is v k p) (shift-set u k (λ x. P x (int k)) (λ t b o. g t b o k) (λ e. h (rw p e)))
+    subst (P u) (taken v .as-int k p) (shift-set u k (λ x. P x (int k)) (λ t b o. g t b o k) (λ e. h (rw p e)))
 
 -- ---- operators that commute
 pub with-both-comm :

@@ -128,13 +128,6 @@ abbrev pub word-of : ℤ → ℕ
 word-of (pos n) = n % W
 word-of (negsuc n) = minus-one - n % W
 
-pub word-of-signed : (a : ℕ) → a < W → word-of (toZ w64 a) ≡ a
-word-of-signed a h = is (toZ w64 a) (mag-signed a h) ∙ sym (of-signed a h)
-  where
-    is : (z : ℤ) → mag z < least → word-of z ≡ ofZ w64 z
-    is (pos n) l = omega arith
-    is (negsuc n) l = omega arith
-
 difference : (a b : ℕ) → a < W → suc b < W → (a + (W - suc b)) % W ≡ word-of (subℕ a (suc b))
 difference a b h k = go (ltb a (suc b)) refl
   where

@@ -4,4 +4,5 @@ pub mod Value
 pub mod Operation
 pub mod Code
 pub mod Equal
+pub mod Opened
 pub mod Examples

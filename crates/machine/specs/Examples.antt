@@ -1,32 +1,19 @@
 -- Runs of the machine, computed: an input and its rewriting side by side, with what they did and how many steps they took.
 use Prim.Native.Nat.{ℕ, suc}
 use mathlib.Core.Path.{_≡_, refl}
-use mathlib.Core.Bool.{true, false, xor}
-use mathlib.Core.List.{List, [], _∷_, map}
+use mathlib.Core.Bool.{true, false}
+use mathlib.Core.List.{List, [], _∷_, _++_, map}
 use mathlib.Core.Option.{Option, none, some}
-use native.Mathlib.Decide.{ℕ-discrete}
-use lib.ListN.{length, getD}
-use Rattle.record.specs.declared.NameIx.{NameIx}
+use lib.ListN.{getD}
 use Rattle.arith.specs.Value.{Val, int, bool, pointer}
 use Rattle.arith.specs.Operation.{by-zero}
-use Rattle.record.specs.Record.{nm, Placed, Record, Function, function, plain, wide, names-of}
+use Rattle.record.specs.Record.{nm, Placed, Record, Function, function, plain, wide}
 use Rattle.record.specs.Reader.{Res, got, fault}
 use Rattle.record.specs.Samples.{division, division-rewritten, call, call-rewritten, loop, loop-rewritten, walk}
-use Rattle.arith.specs.Code.{code1, code2, with-code, one-of, two-of}
-use Rattle.arith.specs.Map.{upd}
-use Rattle.arith.specs.Operation.{asInt, asBool, with-both, with-one, divide, shift, apply1, apply2, eval}
-use Rattle.arith.specs.Value.{typeOf, inRange}
-use Rattle.arith.specs.Word.{W, minus-one, addW, subW, mulW, divW, ltW}
-use Rattle.record.specs.Form.{value-of, form}
-use Rattle.record.specs.Hex.{digit-value, bytes-from, hex}
-use Rattle.record.specs.Read.{name-index, literal, arguments, operands, instr, block, name, names, length-field, end, contents, read}
-use Rattle.record.specs.Reader.{give, _>>=_, here, field, text, if-there, times}
-use Rattle.record.specs.Record.{type-in, id-bytes}
-use Rattle.record.specs.Shape.{shape-of}
-use Rattle.record.specs.Tests.{any, at-most, below, length-test, version-test, names-test, type-test, text-length-test, text-test, saves-test, code-test, count-test, literal-test}
-use Rattle.record.specs.Text.{all-text, well-formed, undigited, reserved, same-bytes, among}
-use Rattle.record.specs.Typing.{obeys, well-typed, body-types, block-types, accept}
-use Rattle.machine.specs.Machine.{Store, Context, Answer, value, go-on, halt, Event, Stop, at-end, at-ret, at-halt, at-unset, at-division, Mach, tick, assign, happens, read-all, finish, take-value, answered, perform, ask, acknowledged, tell, leave, choose, act, step, run-block, Place, before, stopped, Run, nth, arrive, passes, through, advance-from, advance, begin, iterate, run-with, run}
+use Rattle.arith.specs.Word.{W, minus-one}
+use Rattle.record.specs.Typing.{accept}
+use Rattle.machine.specs.Machine.{Store, Answer, value, go-on, halt, Event, at-end, at-ret, at-halt, at-unset, at-division, Place, before, stopped, Run, run}
+use Rattle.machine.specs.Opened.{all-of-machine}
 
 -- what a run shows: where it is, the blocks passed, the events, the answers left, the values of the names in order, and the steps
 pub record Summary : Type 0 where
@@ -68,116 +55,68 @@ runs s vs answers n = let f = function-of (accept wide s) in summary f (run f (s
 abbrev pub event : ℕ → ℕ → ℕ → List Val → Event
 event i c f vs = record { id = i; code = c; callee = f; args = vs }
 
--- ---- a division by zero stops both runs, the second behind one save
-pub stops-in-division :
-    runs division (some (int 0) ∷ none ∷ []) (go-on ∷ []) 1 ≡
-    record {
-      place = stopped (at-division 2 by-zero) 0 1;
-      passed = [];
-      events = [];
-      answers = go-on ∷ [];
-      values = some (int 0) ∷ some (int 7) ∷ [];
-      steps = 2;
-    }
-unfolding code1 code2 with-code one-of two-of upd asInt asBool with-both with-one divide shift apply1 apply2 eval typeOf inRange addW subW mulW divW ltW value-of form digit-value bytes-from hex name-index literal arguments operands instr block name names length-field end contents read give _>>=_ here field text if-there times type-in id-bytes shape-of any at-most below length-test version-test names-test type-test text-length-test text-test saves-test code-test count-test literal-test all-text well-formed undigited reserved same-bytes among obeys well-typed body-types block-types accept tick assign happens read-all finish take-value answered perform ask acknowledged tell leave choose act step run-block nth arrive passes through advance-from advance begin iterate run-with run xor ℕ-discrete
-stops-in-division = refl
+-- a summary by its parts in order
+abbrev pub shows : Place → List ℕ → List Event → List Answer → List (Option Val) → ℕ → Summary
+shows p bs es xs vs n = record { place = p; passed = bs; events = es; answers = xs; values = vs; steps = n }
 
-pub stops-in-division-rewritten :
-    runs division-rewritten (some (int 0) ∷ none ∷ []) (go-on ∷ []) 1 ≡
-    record {
-      place = stopped (at-division 2 by-zero) 0 2;
-      passed = [];
-      events = [];
-      answers = go-on ∷ [];
-      values = some (int 0) ∷ some (int 7) ∷ some (int 7) ∷ [];
-      steps = 3;
-    }
-unfolding code1 code2 with-code one-of two-of upd asInt asBool with-both with-one divide shift apply1 apply2 eval typeOf inRange addW subW mulW divW ltW value-of form digit-value bytes-from hex name-index literal arguments operands instr block name names length-field end contents read give _>>=_ here field text if-there times type-in id-bytes shape-of any at-most below length-test version-test names-test type-test text-length-test text-test saves-test code-test count-test literal-test all-text well-formed undigited reserved same-bytes among obeys well-typed body-types block-types accept tick assign happens read-all finish take-value answered perform ask acknowledged tell leave choose act step run-block nth arrive passes through advance-from advance begin iterate run-with run xor ℕ-discrete
-stops-in-division-rewritten = refl
+-- ---- a record, what its names hold, the answers, how many blocks are run, and what the run shows
+abbrev pub Case : Type 0
+Case = List ℕ × List (Option Val) × List Answer × ℕ × Summary
 
--- ---- a bool does not fit an int: the event stands, dest keeps its value
-pub halts :
-    runs call (some (int 5) ∷ []) (value (bool true) ∷ go-on ∷ []) 1 ≡
-    record {
-      place = stopped at-halt 0 0;
-      passed = [];
-      events = event 1 20 3 (int 5 ∷ []) ∷ [];
-      answers = go-on ∷ [];
-      values = some (int 5) ∷ [];
-      steps = 1;
-    }
-unfolding code1 code2 with-code one-of two-of upd asInt asBool with-both with-one divide shift apply1 apply2 eval typeOf inRange addW subW mulW divW ltW value-of form digit-value bytes-from hex name-index literal arguments operands instr block name names length-field end contents read give _>>=_ here field text if-there times type-in id-bytes shape-of any at-most below length-test version-test names-test type-test text-length-test text-test saves-test code-test count-test literal-test all-text well-formed undigited reserved same-bytes among obeys well-typed body-types block-types accept tick assign happens read-all finish take-value answered perform ask acknowledged tell leave choose act step run-block nth arrive passes through advance-from advance begin iterate run-with run xor ℕ-discrete
-halts = refl
+-- a division by zero stops both runs, the second behind one save
+abbrev pub stops-in-division : List Case
+stops-in-division =
+    let vs : List (Option Val) = some (int 0) ∷ none ∷ [] in
+    let xs : List Answer = go-on ∷ [] in
+    let stop : ℕ → Place = stopped (at-division 2 by-zero) 0 in
+    (division, vs, xs, 1, shows (stop 1) [] [] xs (some (int 0) ∷ some (int 7) ∷ []) 2) ∷
+    (division-rewritten, vs, xs, 1, shows (stop 2) [] [] xs (some (int 0) ∷ some (int 7) ∷ some (int 7) ∷ []) 3) ∷
+    []
 
-pub halts-rewritten :
-    runs call-rewritten (some (int 5) ∷ []) (value (bool true) ∷ go-on ∷ []) 1 ≡
-    record {
-      place = stopped at-halt 0 1;
-      passed = [];
-      events = event 1 20 3 (int 5 ∷ []) ∷ [];
-      answers = go-on ∷ [];
-      values = some (int 5) ∷ some (int 5) ∷ [];
-      steps = 2;
-    }
-unfolding code1 code2 with-code one-of two-of upd asInt asBool with-both with-one divide shift apply1 apply2 eval typeOf inRange addW subW mulW divW ltW value-of form digit-value bytes-from hex name-index literal arguments operands instr block name names length-field end contents read give _>>=_ here field text if-there times type-in id-bytes shape-of any at-most below length-test version-test names-test type-test text-length-test text-test saves-test code-test count-test literal-test all-text well-formed undigited reserved same-bytes among obeys well-typed body-types block-types accept tick assign happens read-all finish take-value answered perform ask acknowledged tell leave choose act step run-block nth arrive passes through advance-from advance begin iterate run-with run xor ℕ-discrete
-halts-rewritten = refl
+-- a bool does not fit an int: the event stands, dest keeps its value
+abbrev pub halts : List Case
+halts =
+    let vs : List (Option Val) = some (int 5) ∷ [] in
+    let xs : List Answer = value (bool true) ∷ go-on ∷ [] in
+    let es : List Event = event 1 20 3 (int 5 ∷ []) ∷ [] in
+    (call, vs, xs, 1, shows (stopped at-halt 0 0) [] es (go-on ∷ []) (some (int 5) ∷ []) 1) ∷
+    (call-rewritten, vs, xs, 1, shows (stopped at-halt 0 1) [] es (go-on ∷ []) (some (int 5) ∷ some (int 5) ∷ []) 2) ∷
+    []
 
--- ---- over a jump back: the first block is passed twice, with its save each time
-pub jumps-back :
-    runs loop (some (int 2) ∷ some (int minus-one) ∷ some (int 0) ∷ []) (go-on ∷ go-on ∷ halt ∷ []) 5 ≡
-    record {
-      place = stopped at-ret 1 0;
-      passed = 0 ∷ 0 ∷ [];
-      events = event 2 68 0 (int 1 ∷ []) ∷ event 2 68 0 (int 0 ∷ []) ∷ event 5 66 0 (int 0 ∷ []) ∷ [];
-      answers = halt ∷ [];
-      values = some (int 0) ∷ some (int minus-one) ∷ some (int 0) ∷ some (bool false) ∷ [];
-      steps = 9;
-    }
-unfolding code1 code2 with-code one-of two-of upd asInt asBool with-both with-one divide shift apply1 apply2 eval typeOf inRange addW subW mulW divW ltW value-of form digit-value bytes-from hex name-index literal arguments operands instr block name names length-field end contents read give _>>=_ here field text if-there times type-in id-bytes shape-of any at-most below length-test version-test names-test type-test text-length-test text-test saves-test code-test count-test literal-test all-text well-formed undigited reserved same-bytes among obeys well-typed body-types block-types accept tick assign happens read-all finish take-value answered perform ask acknowledged tell leave choose act step run-block nth arrive passes through advance-from advance begin iterate run-with run xor ℕ-discrete
-jumps-back = refl
+-- over a jump back: the first block is passed twice, with its save each time
+abbrev pub jumps-back : List Case
+jumps-back =
+    let vs : List (Option Val) = some (int 2) ∷ some (int minus-one) ∷ some (int 0) ∷ [] in
+    let xs : List Answer = go-on ∷ go-on ∷ halt ∷ [] in
+    let es : List Event = event 2 68 0 (int 1 ∷ []) ∷ event 2 68 0 (int 0 ∷ []) ∷ event 5 66 0 (int 0 ∷ []) ∷ [] in
+    let end : List (Option Val) → ℕ → Summary = shows (stopped at-ret 1 0) (0 ∷ 0 ∷ []) es (halt ∷ []) in
+    (loop, vs, xs, 5, end (some (int 0) ∷ some (int minus-one) ∷ some (int 0) ∷ some (bool false) ∷ []) 9) ∷
+    (loop-rewritten, vs, xs, 5, end (some (int 0) ∷ some (int minus-one) ∷ some (int 0) ∷ some (bool false) ∷ some (int 1) ∷ []) 11) ∷
+    []
 
-pub jumps-back-rewritten :
-    runs loop-rewritten (some (int 2) ∷ some (int minus-one) ∷ some (int 0) ∷ []) (go-on ∷ go-on ∷ halt ∷ []) 5 ≡
-    record {
-      place = stopped at-ret 1 0;
-      passed = 0 ∷ 0 ∷ [];
-      events = event 2 68 0 (int 1 ∷ []) ∷ event 2 68 0 (int 0 ∷ []) ∷ event 5 66 0 (int 0 ∷ []) ∷ [];
-      answers = halt ∷ [];
-      values = some (int 0) ∷ some (int minus-one) ∷ some (int 0) ∷ some (bool false) ∷ some (int 1) ∷ [];
-      steps = 11;
-    }
-unfolding code1 code2 with-code one-of two-of upd asInt asBool with-both with-one divide shift apply1 apply2 eval typeOf inRange addW subW mulW divW ltW value-of form digit-value bytes-from hex name-index literal arguments operands instr block name names length-field end contents read give _>>=_ here field text if-there times type-in id-bytes shape-of any at-most below length-test version-test names-test type-test text-length-test text-test saves-test code-test count-test literal-test all-text well-formed undigited reserved same-bytes among obeys well-typed body-types block-types accept tick assign happens read-all finish take-value answered perform ask acknowledged tell leave choose act step run-block nth arrive passes through advance-from advance begin iterate run-with run xor ℕ-discrete
-jumps-back-rewritten = refl
+-- an empty block, nop, jmp, load, store, and the end past the last block; the first two blocks of it, before block 3 is begun
+abbrev pub walks : List Case
+walks =
+    let p : Val = pointer 0x10 100 8 in
+    let vs : List (Option Val) = some p ∷ none ∷ [] in
+    let es : List Event = event 4 38 0 (p ∷ []) ∷ event 5 70 0 (p ∷ int 9 ∷ []) ∷ [] in
+    (walk, vs, value (int 9) ∷ go-on ∷ [], 4, shows (stopped at-end 4 0) (3 ∷ 1 ∷ 0 ∷ []) es [] (some p ∷ some (int 9) ∷ []) 4) ∷
+    (walk, vs, [], 2, shows (before 3) (1 ∷ 0 ∷ []) [] [] vs 2) ∷
+    []
 
--- ---- an empty block, nop, jmp, load, store, and the end past the last block
-pub walks :
-    runs walk (some (pointer 0x10 100 8) ∷ none ∷ []) (value (int 9) ∷ go-on ∷ []) 4 ≡
-    record {
-      place = stopped at-end 4 0;
-      passed = 3 ∷ 1 ∷ 0 ∷ [];
-      events = event 4 38 0 (pointer 0x10 100 8 ∷ []) ∷ event 5 70 0 (pointer 0x10 100 8 ∷ int 9 ∷ []) ∷ [];
-      answers = [];
-      values = some (pointer 0x10 100 8) ∷ some (int 9) ∷ [];
-      steps = 4;
-    }
-unfolding code1 code2 with-code one-of two-of upd asInt asBool with-both with-one divide shift apply1 apply2 eval typeOf inRange addW subW mulW divW ltW value-of form digit-value bytes-from hex name-index literal arguments operands instr block name names length-field end contents read give _>>=_ here field text if-there times type-in id-bytes shape-of any at-most below length-test version-test names-test type-test text-length-test text-test saves-test code-test count-test literal-test all-text well-formed undigited reserved same-bytes among obeys well-typed body-types block-types accept tick assign happens read-all finish take-value answered perform ask acknowledged tell leave choose act step run-block nth arrive passes through advance-from advance begin iterate run-with run xor ℕ-discrete
-walks = refl
+-- an argument that is not set
+abbrev pub unset-stops : List Case
+unset-stops =
+    (call, [], value (int 6) ∷ [], 1, shows (stopped at-unset 0 0) [] [] (value (int 6) ∷ []) (none ∷ []) 1) ∷ []
 
--- the first two blocks of it, before block 3 is begun
-pub walks-on :
-    runs walk (some (pointer 0x10 100 8) ∷ none ∷ []) [] 2 ≡
-    record {
-      place = before 3;
-      passed = 1 ∷ 0 ∷ [];
-      events = [];
-      answers = [];
-      values = some (pointer 0x10 100 8) ∷ none ∷ [];
-      steps = 2;
-    }
-unfolding code1 code2 with-code one-of two-of upd asInt asBool with-both with-one divide shift apply1 apply2 eval typeOf inRange addW subW mulW divW ltW value-of form digit-value bytes-from hex name-index literal arguments operands instr block name names length-field end contents read give _>>=_ here field text if-there times type-in id-bytes shape-of any at-most below length-test version-test names-test type-test text-length-test text-test saves-test code-test count-test literal-test all-text well-formed undigited reserved same-bytes among obeys well-typed body-types block-types accept tick assign happens read-all finish take-value answered perform ask acknowledged tell leave choose act step run-block nth arrive passes through advance-from advance begin iterate run-with run xor ℕ-discrete
-walks-on = refl
+abbrev pub cases : List Case
+cases = stops-in-division ++ (halts ++ (jumps-back ++ (walks ++ unset-stops)))
 
--- ---- where each answer leads: value and effect codes, and an argument that is not set
+pub samples-run : map (λ c. runs (c .0) (c .1) (c .2) (c .3)) cases ≡ map (λ c. c .4) cases
+unfolding all-of-machine
+samples-run = refl
+
+-- ---- where each answer leads: value and effect codes
 abbrev pub stop-of : List ℕ → List (Option Val) → List Answer → Place
 stop-of s vs answers = runs s vs answers 5 .place
 
@@ -187,18 +126,5 @@ pub answers-that-halt :
     (value (int 6) ∷ []) ∷ (value (int 6) ∷ value (int 6) ∷ []) ∷ (value (int 6) ∷ halt ∷ []) ∷ (value (int 6) ∷ go-on ∷ []) ∷ []) ≡
     stopped at-halt 0 0 ∷ stopped at-halt 0 0 ∷ stopped at-halt 0 0 ∷ stopped at-halt 0 0 ∷ stopped at-halt 0 0 ∷
     stopped at-halt 0 1 ∷ stopped at-halt 0 1 ∷ stopped at-halt 0 1 ∷ stopped at-end 1 0 ∷ []
-unfolding code1 code2 with-code one-of two-of upd asInt asBool with-both with-one divide shift apply1 apply2 eval typeOf inRange addW subW mulW divW ltW value-of form digit-value bytes-from hex name-index literal arguments operands instr block name names length-field end contents read give _>>=_ here field text if-there times type-in id-bytes shape-of any at-most below length-test version-test names-test type-test text-length-test text-test saves-test code-test count-test literal-test all-text well-formed undigited reserved same-bytes among obeys well-typed body-types block-types accept tick assign happens read-all finish take-value answered perform ask acknowledged tell leave choose act step run-block nth arrive passes through advance-from advance begin iterate run-with run xor ℕ-discrete
+unfolding all-of-machine
 answers-that-halt = refl
-
-pub unset-stops :
-    runs call [] (value (int 6) ∷ []) 1 ≡
-    record {
-      place = stopped at-unset 0 0;
-      passed = [];
-      events = [];
-      answers = value (int 6) ∷ [];
-      values = none ∷ [];
-      steps = 1;
-    }
-unfolding code1 code2 with-code one-of two-of upd asInt asBool with-both with-one divide shift apply1 apply2 eval typeOf inRange addW subW mulW divW ltW value-of form digit-value bytes-from hex name-index literal arguments operands instr block name names length-field end contents read give _>>=_ here field text if-there times type-in id-bytes shape-of any at-most below length-test version-test names-test type-test text-length-test text-test saves-test code-test count-test literal-test all-text well-formed undigited reserved same-bytes among obeys well-typed body-types block-types accept tick assign happens read-all finish take-value answered perform ask acknowledged tell leave choose act step run-block nth arrive passes through advance-from advance begin iterate run-with run xor ℕ-discrete
-unset-stops = refl

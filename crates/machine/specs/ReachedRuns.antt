@@ -1,23 +1,16 @@
 -- What runs have come to, and which of them have read an unset name, computed.
 use Prim.Native.Nat.{ℕ}
 use mathlib.Core.Path.{_≡_, refl}
-use mathlib.Core.Bool.{Bool, true, false, xor}
+use mathlib.Core.Bool.{Bool, true, false}
 use mathlib.Core.List.{List, [], _∷_, map}
 use mathlib.Core.Option.{none, some}
-use native.Mathlib.Decide.{ℕ-discrete}
 use Rattle.arith.specs.Value.{int, bool}
 use Rattle.record.specs.Record.{Instr, Function}
-use Rattle.arith.specs.Code.{code1, code2, with-code, one-of, two-of}
-use Rattle.arith.specs.Map.{upd}
-use Rattle.arith.specs.Operation.{asInt, asBool, with-both, with-one, divide, apply1, apply2, eval}
-use Rattle.arith.specs.Value.{typeOf, inRange}
-use Rattle.arith.specs.Word.{addW}
-use Rattle.record.specs.Form.{form}
-use Rattle.record.specs.Record.{type-in}
 use Rattle.record.specs.Short.{gives, does, chooses, goes}
-use Rattle.machine.specs.Machine.{Store, Answer, value, go-on, halt, tick, assign, happens, read-all, finish, take-value, answered, perform, ask, acknowledged, tell, leave, choose, act, step, run-block, nth, arrive, passes, through, advance-from, advance, begin, iterate, run-with, run}
-use Rattle.machine.specs.Reached.{reached-in, reached-from, reached-with, reached, is-set, all-set, none-unset, read-no-unset}
+use Rattle.machine.specs.Machine.{Store, Answer, value, go-on, halt}
+use Rattle.machine.specs.Reached.{reached, read-no-unset}
 use Rattle.machine.specs.Examples.{values-in, store-of}
+use Rattle.machine.specs.Opened.{all-of-machine}
 
 -- names: 0 an int that is set, 1 the int 0, 2 and 3 ints that are not set, 4 a bool that is set
 abbrev func : List (List Instr) → Function
@@ -86,7 +79,7 @@ pub come-to :
     ((1 ∷ 2 ∷ []) ∷ (1 ∷ 2 ∷ 5 ∷ []) ∷ (1 ∷ 2 ∷ 5 ∷ 6 ∷ []) ∷ (1 ∷ 2 ∷ 5 ∷ 6 ∷ []) ∷ []) ∷
     ((1 ∷ 2 ∷ 3 ∷ []) ∷ (1 ∷ 2 ∷ 3 ∷ 1 ∷ 2 ∷ []) ∷ (1 ∷ 2 ∷ 3 ∷ 1 ∷ 2 ∷ []) ∷ []) ∷
     ([] ∷ [] ∷ []) ∷ []
-unfolding code1 code2 with-code one-of two-of upd asInt asBool with-both with-one divide apply1 apply2 eval typeOf inRange addW form type-in tick assign happens read-all finish take-value answered perform ask acknowledged tell leave choose act step run-block nth arrive passes through advance-from advance begin iterate run-with run reached-in reached-from reached-with reached xor ℕ-discrete
+unfolding all-of-machine
 come-to = refl
 
 -- each with the store that it found, not the one that it left: x is 5 from the second instruction on, and 10 from the third
@@ -95,7 +88,7 @@ pub found :
     (some (int 5) ∷ some (int 0) ∷ none ∷ []) ∷
     (some (int 5) ∷ some (int 0) ∷ some (int 5) ∷ []) ∷
     (some (int 5) ∷ some (int 0) ∷ some (int 10) ∷ []) ∷ []
-unfolding code1 code2 with-code one-of two-of upd asInt asBool with-both with-one divide apply1 apply2 eval typeOf inRange addW form type-in tick assign happens read-all finish take-value answered perform ask acknowledged tell leave choose act step run-block nth arrive passes through advance-from advance begin iterate run-with run reached-in reached-from reached-with reached xor ℕ-discrete
+unfolding all-of-machine
 found = refl
 
 -- ---- what they have read
@@ -114,7 +107,7 @@ pub has-read-no-unset :
     (true ∷ true ∷ true ∷ []) ∷
     (true ∷ true ∷ []) ∷
     (true ∷ true ∷ []) ∷ []
-unfolding code1 code2 with-code one-of two-of upd asInt asBool with-both with-one divide apply1 apply2 eval typeOf inRange addW form type-in tick assign happens read-all finish take-value answered perform ask acknowledged tell leave choose act step run-block nth arrive passes through advance-from advance begin iterate run-with run reached-in reached-from reached-with reached is-set all-set none-unset read-no-unset xor ℕ-discrete
+unfolding all-of-machine
 has-read-no-unset = refl
 
 -- in one block: the first, a middle and the last argument; the first, a middle and the last instruction; a dest that is read too; a name that
@@ -137,5 +130,5 @@ pub reads-unset :
     []
     ) ≡
     false ∷ false ∷ false ∷ true ∷ false ∷ false ∷ false ∷ false ∷ false ∷ true ∷ false ∷ false ∷ false ∷ []
-unfolding code1 code2 with-code one-of two-of upd asInt asBool with-both with-one divide apply1 apply2 eval typeOf inRange addW form type-in tick assign happens read-all finish take-value answered perform ask acknowledged tell leave choose act step run-block nth arrive passes through advance-from advance begin iterate run-with run reached-in reached-from reached-with reached is-set all-set none-unset read-no-unset xor ℕ-discrete
+unfolding all-of-machine
 reads-unset = refl

@@ -1,22 +1,19 @@
 -- Runs of small functions, computed: no block at all, events with their callee, answers of every type, what is read first, and every end.
 use Prim.Native.Nat.{ℕ}
 use mathlib.Core.Path.{_≡_, refl}
-use mathlib.Core.Bool.{Bool, true, false, xor}
+use mathlib.Core.Bool.{Bool, true, false}
 use mathlib.Core.List.{List, [], _∷_, _++_, map}
 use mathlib.Core.Option.{Option, none, some}
-use native.Mathlib.Decide.{ℕ-discrete}
 use lib.ListN.{length}
-use Rattle.arith.specs.Code.{code1, code2, with-code, one-of, two-of}
-use Rattle.arith.specs.Map.{upd}
-use Rattle.arith.specs.Operation.{by-zero, overflow, asInt, asBool, with-both, with-one, divide, shift, apply1, apply2, eval}
-use Rattle.arith.specs.Value.{Val, int, float, literal, char, bool, pointer, typeOf, inRange}
-use Rattle.arith.specs.Word.{W, least, minus-one, addW, subW, mulW, divW, ltW}
-use Rattle.record.specs.Form.{value-of, form}
-use Rattle.record.specs.Record.{Instr, Function, type-in}
+use Rattle.arith.specs.Operation.{by-zero, overflow}
+use Rattle.arith.specs.Value.{Val, int, float, literal, char, bool, pointer}
+use Rattle.arith.specs.Word.{W, least, minus-one}
+use Rattle.record.specs.Record.{Instr, Function}
 use Rattle.record.specs.Short.{gives, asks, set, does, tells, chooses, goes}
 use Rattle.record.specs.Tables.{count, numerals}
-use Rattle.machine.specs.Machine.{Answer, value, go-on, halt, Event, Stop, at-end, at-ret, at-halt, at-unset, at-division, tick, assign, happens, read-all, finish, take-value, answered, perform, ask, acknowledged, tell, leave, choose, act, step, run-block, Place, before, stopped, nth, arrive, passes, through, advance-from, advance, begin, iterate, run-with, run}
-use Rattle.machine.specs.Examples.{Summary, summary, store-of, event}
+use Rattle.machine.specs.Machine.{Answer, value, go-on, halt, Event, Stop, at-end, at-ret, at-halt, at-unset, at-division, Place, before, stopped, run}
+use Rattle.machine.specs.Examples.{Summary, summary, store-of, event, shows}
+use Rattle.machine.specs.Opened.{all-of-machine}
 
 -- a function by the types of its names and its blocks, what its names hold, the answers, how many blocks are run, and what the run shows
 pub record Case : Type 0 where
@@ -32,6 +29,11 @@ ran ts bs vs answers n =
     let f : Function = record { args = 0; types = ts; blocks = map (λ is. record { saves = 0; body = is }) bs } in
     summary f (run f (store-of vs) answers n)
 
+-- one block that is run to its end: types, instructions, values, answers, all of which are taken; events, the values then, and steps
+abbrev pub one-block : List ℕ → List Instr → List (Option Val) → List Answer → List Event → List (Option Val) → ℕ → Case
+one-block ts is vs xs es then n =
+    record { types = ts; blocks = is ∷ []; values = vs; answers = xs; asked = 1; shows = shows (stopped at-end 1 0) (0 ∷ []) es [] then n }
+
 -- ---- "B of 0 ends", however many blocks are asked for
 abbrev pub no-blocks : List Case
 no-blocks =
@@ -42,8 +44,7 @@ no-blocks =
       values = some (int 5) ∷ [];
       answers = go-on ∷ [];
       asked = n;
-      shows =
-          record { place = stopped at-end 0 0; passed = []; events = []; answers = go-on ∷ []; values = some (int 5) ∷ []; steps = 0 };
+      shows = shows (stopped at-end 0 0) [] [] (go-on ∷ []) (some (int 5) ∷ []) 0;
     })
     (0 ∷ 1 ∷ 3 ∷ [])
 
@@ -51,6 +52,8 @@ no-blocks =
 -- p ptr<int>, x int: p = alloc x; x = load p; store p x; free p
 abbrev pub events-in-order : List Case
 events-in-order =
+    let a : List Event = event 1 20 7 (int 5 ∷ []) ∷ event 2 67 9 (int 6 ∷ int 6 ∷ []) ∷ event 3 68 0 (int 6 ∷ []) ∷ event 4 67 0 [] ∷ [] in
+    let p : Val = pointer 0x10 3 0 in
     record {
       types = 0x00 ∷ [];
       blocks =
@@ -58,79 +61,24 @@ events-in-order =
       values = some (int 5) ∷ [];
       answers = value (int 6) ∷ go-on ∷ go-on ∷ go-on ∷ halt ∷ [];
       asked = 2;
-      shows =
-          record {
-            place = stopped at-end 2 0;
-            passed = 1 ∷ 0 ∷ [];
-            events =
-                event 1 20 7 (int 5 ∷ []) ∷ event 2 67 9 (int 6 ∷ int 6 ∷ []) ∷ event 3 68 0 (int 6 ∷ []) ∷ event 4 67 0 [] ∷ [];
-            answers = halt ∷ [];
-            values = some (int 6) ∷ [];
-            steps = 6;
-          };
+      shows = shows (stopped at-end 2 0) (1 ∷ 0 ∷ []) a (halt ∷ []) (some (int 6) ∷ []) 6;
     } ∷
-    record {
-      types = 0x10 ∷ 0x00 ∷ [];
-      blocks = (gives 1 0 37 (1 ∷ []) ∷ gives 2 1 38 (0 ∷ []) ∷ does 3 70 (0 ∷ 1 ∷ []) ∷ does 4 71 (0 ∷ []) ∷ []) ∷ [];
-      values = none ∷ some (int 5) ∷ [];
-      answers = value (pointer 0x10 3 0) ∷ value (int 6) ∷ go-on ∷ go-on ∷ [];
-      asked = 1;
-      shows =
-          record {
-            place = stopped at-end 1 0;
-            passed = 0 ∷ [];
-            events =
-                event 1 37 0 (int 5 ∷ []) ∷
-                event 2 38 0 (pointer 0x10 3 0 ∷ []) ∷
-                event 3 70 0 (pointer 0x10 3 0 ∷ int 6 ∷ []) ∷
-                event 4 71 0 (pointer 0x10 3 0 ∷ []) ∷
-                [];
-            answers = [];
-            values = some (pointer 0x10 3 0) ∷ some (int 6) ∷ [];
-            steps = 4;
-          };
-    } ∷
+    one-block (0x10 ∷ 0x00 ∷ [])
+    (gives 1 0 37 (1 ∷ []) ∷ gives 2 1 38 (0 ∷ []) ∷ does 3 70 (0 ∷ 1 ∷ []) ∷ does 4 71 (0 ∷ []) ∷ [])
+    (none ∷ some (int 5) ∷ []) (value p ∷ value (int 6) ∷ go-on ∷ go-on ∷ [])
+    (event 1 37 0 (int 5 ∷ []) ∷ event 2 38 0 (p ∷ []) ∷ event 3 70 0 (p ∷ int 6 ∷ []) ∷ event 4 71 0 (p ∷ []) ∷ [])
+    (some p ∷ some (int 6) ∷ []) 4 ∷
     []
 
 -- each of the codes 20 to 38 asks, and each of the effects 67, 68, 70, 71 tells
 abbrev pub codes-with-events : List Case
 codes-with-events =
+    let five : List (Option Val) = some (int 5) ∷ [] in
+    let told : ℕ → List Event = λ c. event 1 c 0 (int 5 ∷ []) ∷ [] in
     map
-    (λ c. record {
-      types = 0x00 ∷ 0x00 ∷ [];
-      blocks = (gives 1 1 c (0 ∷ []) ∷ []) ∷ [];
-      values = some (int 5) ∷ [];
-      answers = value (int 6) ∷ [];
-      asked = 1;
-      shows =
-          record {
-            place = stopped at-end 1 0;
-            passed = 0 ∷ [];
-            events = event 1 c 0 (int 5 ∷ []) ∷ [];
-            answers = [];
-            values = some (int 5) ∷ some (int 6) ∷ [];
-            steps = 1;
-          };
-    })
+    (λ c. one-block (0x00 ∷ 0x00 ∷ []) (gives 1 1 c (0 ∷ []) ∷ []) five (value (int 6) ∷ []) (told c) (some (int 5) ∷ some (int 6) ∷ []) 1)
     (count 20 19) ++
-    map
-    (λ c. record {
-      types = 0x00 ∷ [];
-      blocks = (does 1 c (0 ∷ []) ∷ []) ∷ [];
-      values = some (int 5) ∷ [];
-      answers = go-on ∷ [];
-      asked = 1;
-      shows =
-          record {
-            place = stopped at-end 1 0;
-            passed = 0 ∷ [];
-            events = event 1 c 0 (int 5 ∷ []) ∷ [];
-            answers = [];
-            values = some (int 5) ∷ [];
-            steps = 1;
-          };
-    })
-    (67 ∷ 68 ∷ 70 ∷ 71 ∷ [])
+    map (λ c. one-block (0x00 ∷ []) (does 1 c (0 ∷ []) ∷ []) five (go-on ∷ []) (told c) five 1) (67 ∷ 68 ∷ 70 ∷ 71 ∷ [])
 
 -- ---- an instruction that stops a run at once, with nop behind it: the stop, its event or none, and the answers that are left
 abbrev pub stops-run : List (Option Val) → Instr → List Answer → Stop → List Event → List Answer → Case
@@ -141,7 +89,7 @@ stops-run vs i answers s es left =
       values = vs;
       answers = answers;
       asked = 3;
-      shows = record { place = stopped s 0 0; passed = []; events = es; answers = left; values = vs; steps = 1 };
+      shows = shows (stopped s 0 0) [] es left vs 1;
     }
 
 -- every answer that halts is taken off the list, its event stands, and dest keeps its value
@@ -191,35 +139,14 @@ read-first =
 abbrev pub literal-in-a-float : List Case
 literal-in-a-float =
     map
-    (λ v. record {
-      types = 0x02 ∷ 0x02 ∷ [];
-      blocks = (set 1 0 0 7 ∷ does 2 68 (0 ∷ []) ∷ gives 3 1 13 (0 ∷ []) ∷ asks 4 0 3 (1 ∷ []) ∷ []) ∷ [];
-      values = [];
-      answers = go-on ∷ value v ∷ [];
-      asked = 1;
-      shows =
-          record {
-            place = stopped at-end 1 0;
-            passed = 0 ∷ [];
-            events = event 2 68 0 (literal 7 ∷ []) ∷ event 4 20 3 (literal 7 ∷ []) ∷ [];
-            answers = [];
-            values = some v ∷ some (literal 7) ∷ [];
-            steps = 4;
-          };
-    })
+    (λ v. one-block (0x02 ∷ 0x02 ∷ [])
+    (set 1 0 0 7 ∷ does 2 68 (0 ∷ []) ∷ gives 3 1 13 (0 ∷ []) ∷ asks 4 0 3 (1 ∷ []) ∷ []) [] (go-on ∷ value v ∷ [])
+    (event 2 68 0 (literal 7 ∷ []) ∷ event 4 20 3 (literal 7 ∷ []) ∷ []) (some v ∷ some (literal 7) ∷ []) 4)
     (literal 8 ∷ float 8 ∷ [])
 
 -- ---- a block that only computes: what its names hold, and then
 abbrev pub computes : List ℕ → List Instr → List (Option Val) → List (Option Val) → ℕ → Case
-computes ts is vs then n =
-    record {
-      types = ts;
-      blocks = is ∷ [];
-      values = vs;
-      answers = [];
-      asked = 1;
-      shows = record { place = stopped at-end 1 0; passed = 0 ∷ []; events = []; answers = []; values = then; steps = n };
-    }
+computes ts is vs then n = one-block ts is vs [] [] then n
 
 -- q = ptradd p n: the offset wraps, base and type stay
 abbrev pub shifted : ℕ → ℕ → ℕ → Case
@@ -244,7 +171,7 @@ goes-by bs c p l n =
       values = some (bool c) ∷ [];
       answers = [];
       asked = 5;
-      shows = record { place = p; passed = l; events = []; answers = []; values = some (bool c) ∷ []; steps = n };
+      shows = shows p l [] [] (some (bool c) ∷ []) n;
     }
 
 abbrev pub ways : List Case
@@ -265,7 +192,7 @@ cases =
     no-blocks ++ (events-in-order ++ (codes-with-events ++ (halting-answers ++ (returns ++ (read-first ++ (literal-in-a-float ++ (computed ++ ways)))))))
 
 pub run-so : map (λ c. ran (c .types) (c .blocks) (c .values) (c .answers) (c .asked)) cases ≡ map (λ c. c .shows) cases
-unfolding count numerals code1 code2 with-code one-of two-of upd asInt asBool with-both with-one divide shift apply1 apply2 eval typeOf inRange addW subW mulW divW ltW value-of form type-in tick assign happens read-all finish take-value answered perform ask acknowledged tell leave choose act step run-block nth arrive passes through advance-from advance begin iterate run-with run xor ℕ-discrete
+unfolding all-of-machine count numerals
 run-so = refl
 
 -- ---- "a value of dest's type": 1 where the call of that type takes the value, 0 where it halts
@@ -293,5 +220,5 @@ pub answers-by-type :
     "000 00 000 00 000000 001000" ∷
     "000 00 000 00 000000 000000" ∷
     [])
-unfolding count numerals code1 code2 with-code one-of two-of upd asInt asBool with-both with-one divide shift apply1 apply2 eval typeOf inRange addW subW mulW divW ltW value-of form type-in tick assign happens read-all finish take-value answered perform ask acknowledged tell leave choose act step run-block nth arrive passes through advance-from advance begin iterate run-with run xor ℕ-discrete
+unfolding all-of-machine count numerals
 answers-by-type = refl

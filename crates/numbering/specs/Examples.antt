@@ -2,31 +2,10 @@
 use Prim.Native.Nat.{ℕ}
 use mathlib.Core.Path.{_≡_, refl}
 use mathlib.Core.List.{List, [], _∷_, map}
-use native.Mathlib.Decide.{ℕ-discrete}
-use mathlib.Core.Bool.{xor}
 use lib.ListN.{replicate}
-use Rattle.arith.specs.Code.{code1, code2, with-code, one-of, two-of}
-use Rattle.arith.specs.Map.{upd}
-use Rattle.arith.specs.Operation.{asInt, asBool, with-both, with-one, divide, shift, apply1, apply2, eval}
-use Rattle.arith.specs.Value.{typeOf, inRange}
-use Rattle.arith.specs.Word.{addW, subW, mulW, divW, ltW}
-use Rattle.record.specs.Answer.{number, check-answer, checked, literal-of}
-use Rattle.record.specs.Form.{value-of, form}
-use Rattle.record.specs.Hex.{digit-value, bytes-from, hex}
-use Rattle.record.specs.Read.{name-index, literal, arguments, operands, instr, block, name, names, length-field, end, contents, read}
-use Rattle.record.specs.Reader.{give, _>>=_, here, field, text, if-there, times}
-use Rattle.record.specs.Record.{type-in, id-bytes}
-use Rattle.record.specs.Shape.{shape-of}
-use Rattle.record.specs.Tests.{any, at-most, below, length-test, version-test, names-test, type-test, text-length-test, text-test, saves-test, code-test, count-test, literal-test}
-use Rattle.record.specs.Text.{all-text, well-formed, undigited, reserved, same-bytes, among}
-use Rattle.record.specs.Typing.{obeys, well-typed, body-types, block-types, accept}
-use Rattle.record.specs.Write.{be, join, when, index-bytes, literal-bytes, argument-bytes, operand-bytes, instr-bytes, block-bytes, name-bytes, content-bytes, bytes}
-use Rattle.numbering.specs.Made.{digits-of, digits, made-text, made-name, made-names, rewriting}
-use Rattle.numbering.specs.Number.{reads, numbered, make-val, val-to-instr, save, save-at, handle-overwrite, find, get-val-num, number-dest, place, by-form, instr-lvn, block-lvn, is-save, count-saves, blocks-lvn, saved-in, made-from, lvn}
-use Rattle.numbering.specs.Program.{refused-line, shown, output-with, program-output}
-use Rattle.numbering.specs.Rewrite.{rewrite-answer, rewritten-bytes, rewrite-result, rewrite-output, rewrite, rewrite-leaves}
-use Rattle.numbering.specs.Simplify.{folded, fold1, fold2, is-int, is-bool, identity, ordered, simplify1, simplify2, simplify}
-use Rattle.numbering.specs.State.{start, new-number, update-env, rehome, see, gen-new-vals, number-of, home-of, known-value, known-expr, known}
+use Rattle.record.specs.Hex.{hex}
+use Rattle.numbering.specs.Program.{output-with}
+use Rattle.numbering.specs.Opened.{all-of-numbering}
 
 -- what the program writes, with a smaller buffer
 abbrev pub written : List ℕ → List ℕ
@@ -88,7 +67,7 @@ pub worked : map written inputs ≡
     -- C12
     hex "00000038 01 00 0002 000178 00075F785F6C766E30 0001 0003 0001 00000001 44 01 0000 00000002 0D 0001 01 0000 00000002 00 0000 00 0000000000000001" ∷
     []
-unfolding code1 code2 with-code one-of two-of upd asInt asBool with-both with-one divide shift apply1 apply2 eval typeOf inRange addW subW mulW divW ltW number check-answer checked literal-of value-of form digit-value bytes-from hex name-index literal arguments operands instr block name names length-field end contents read give _>>=_ here field text if-there times type-in id-bytes shape-of any at-most below length-test version-test names-test type-test text-length-test text-test saves-test code-test count-test literal-test all-text well-formed undigited reserved same-bytes among obeys well-typed body-types block-types accept be join when index-bytes literal-bytes argument-bytes operand-bytes instr-bytes block-bytes name-bytes content-bytes bytes digits-of digits made-text made-name made-names rewriting reads numbered make-val val-to-instr save save-at handle-overwrite find get-val-num number-dest place by-form instr-lvn block-lvn is-save count-saves blocks-lvn saved-in made-from lvn refused-line shown output-with program-output rewrite-answer rewritten-bytes rewrite-result rewrite-output rewrite rewrite-leaves folded fold1 fold2 is-int is-bool identity ordered simplify1 simplify2 simplify start new-number update-env rehome see gen-new-vals number-of home-of known-value known-expr known xor ℕ-discrete
+unfolding all-of-numbering
 worked = refl
 
 -- C13 to C15
@@ -110,5 +89,5 @@ pub worked-further : map written further-inputs ≡
     -- C15
     hex "00000067 01 00 0003 000178 00075F785F6C766E30 00075F785F6C766E31 0002 0003 0001 00000001 44 01 0000 00000002 0D 0001 01 0000 00000002 00 0000 00 0000000000000001 0003 0001 00000003 44 01 0000 00000004 0D 0002 01 0000 00000004 00 0000 00 0000000000000002" ∷
     []
-unfolding code1 code2 with-code one-of two-of upd asInt asBool with-both with-one divide shift apply1 apply2 eval typeOf inRange addW subW mulW divW ltW number check-answer checked literal-of value-of form digit-value bytes-from hex name-index literal arguments operands instr block name names length-field end contents read give _>>=_ here field text if-there times type-in id-bytes shape-of any at-most below length-test version-test names-test type-test text-length-test text-test saves-test code-test count-test literal-test all-text well-formed undigited reserved same-bytes among obeys well-typed body-types block-types accept be join when index-bytes literal-bytes argument-bytes operand-bytes instr-bytes block-bytes name-bytes content-bytes bytes digits-of digits made-text made-name made-names rewriting reads numbered make-val val-to-instr save save-at handle-overwrite find get-val-num number-dest place by-form instr-lvn block-lvn is-save count-saves blocks-lvn saved-in made-from lvn refused-line shown output-with program-output rewrite-answer rewritten-bytes rewrite-result rewrite-output rewrite rewrite-leaves folded fold1 fold2 is-int is-bool identity ordered simplify1 simplify2 simplify start new-number update-env rehome see gen-new-vals number-of home-of known-value known-expr known xor ℕ-discrete
+unfolding all-of-numbering
 worked-further = refl

@@ -1,19 +1,20 @@
 -- simplify by example: every fold, every identity and every order of operands.
-use Prim.Native.Nat.{ℕ, _-_}
+use Prim.Native.Nat.{ℕ}
 use mathlib.Core.Path.{_≡_, refl}
-use mathlib.Core.Bool.{Bool, true, false, xor}
+use mathlib.Core.Bool.{true, false}
 use mathlib.Core.List.{List, [], _∷_, map}
 use mathlib.Core.Option.{Option, none, some}
 use lib.ListN.{getD}
 use Rattle.arith.specs.declared.One.the-variants.{Not, Id}
 use Rattle.arith.specs.declared.Two.{Two}
 use Rattle.arith.specs.declared.Two.the-variants.{Add, Sub, Mul, Div, Eq, Lt, Gt, Le, Ge, And, Or, PtrAdd}
-use Rattle.arith.specs.Word.{W, least, minus-one, addW, subW, mulW, divW, ltW}
-use Rattle.arith.specs.Value.{Val, int, bool, literal}
-use Rattle.arith.specs.Operation.{asInt, asBool, with-both, with-one, divide, shift, apply1, apply2, Expr, constant, one, two}
+use Rattle.arith.specs.Word.{least, minus-one}
+use Rattle.arith.specs.Value.{int, bool, literal}
+use Rattle.arith.specs.Operation.{Expr, constant, one, two}
 use Rattle.numbering.specs.declared.ValNum.{ValNum}
-use Rattle.numbering.specs.State.{vn, known-value, known-expr}
-use Rattle.numbering.specs.Simplify.{folded, fold1, fold2, is-int, is-bool, identity, ordered, simplify1, simplify2, simplify}
+use Rattle.numbering.specs.State.{vn, known-expr}
+use Rattle.numbering.specs.Simplify.{simplify}
+use Rattle.numbering.specs.Opened.{all-of-numbering}
 
 -- the numbers 0 to 4 are known, and 5 to 7 are not, though 7 is an int literal in a float
 abbrev pub values : List (Option (Expr ValNum))
@@ -46,13 +47,13 @@ stays o a b = two o (vn a) (vn b)
 pub adds :
     map (of-two Add) ((0, 5) ∷ (5, 0) ∷ (1, 2) ∷ (6, 5) ∷ (5, 6) ∷ (5, 1) ∷ (5, 7) ∷ []) ≡
     id-of 5 ∷ id-of 5 ∷ constant (int 3) ∷ stays Add 5 6 ∷ stays Add 5 6 ∷ stays Add 1 5 ∷ stays Add 5 7 ∷ []
-unfolding xor addW subW mulW divW ltW asInt asBool with-both with-one divide shift apply1 apply2 known-value known-expr folded fold1 fold2 is-int is-bool identity ordered simplify1 simplify2 simplify
+unfolding all-of-numbering
 adds = refl
 
 pub subtracts :
     map (of-two Sub) ((5, 0) ∷ (0, 5) ∷ (6, 5) ∷ (5, 5) ∷ (1, 2) ∷ []) ≡
     stays Sub 5 0 ∷ stays Sub 0 5 ∷ stays Sub 6 5 ∷ stays Sub 5 5 ∷ constant (int minus-one) ∷ []
-unfolding xor addW subW mulW divW ltW asInt asBool with-both with-one divide shift apply1 apply2 known-value known-expr folded fold1 fold2 is-int is-bool identity ordered simplify1 simplify2 simplify
+unfolding all-of-numbering
 subtracts = refl
 
 -- 0, 1 and 2 times y, on both sides
@@ -60,7 +61,7 @@ pub multiplies :
     map (of-two Mul) ((0, 5) ∷ (5, 0) ∷ (1, 5) ∷ (5, 1) ∷ (2, 5) ∷ (5, 2) ∷ (6, 5) ∷ (5, 6) ∷ (2, 2) ∷ (0, 1) ∷ []) ≡
     constant (int 0) ∷ constant (int 0) ∷ id-of 5 ∷ id-of 5 ∷ stays Add 5 5 ∷ stays Add 5 5 ∷ stays Mul 5 6 ∷ stays Mul 5 6 ∷
     constant (int 4) ∷ constant (int 0) ∷ []
-unfolding xor addW subW mulW divW ltW asInt asBool with-both with-one divide shift apply1 apply2 known-value known-expr folded fold1 fold2 is-int is-bool identity ordered simplify1 simplify2 simplify
+unfolding all-of-numbering
 multiplies = refl
 
 -- by 0, and of -2^63 by -1, the division stays
@@ -68,14 +69,14 @@ pub divides :
     map (of-two Div) ((2, 1) ∷ (2, 0) ∷ (8, 9) ∷ (8, 2) ∷ (9, 2) ∷ (5, 1) ∷ (5, 5) ∷ (6, 5) ∷ []) ≡
     constant (int 2) ∷ stays Div 2 0 ∷ stays Div 8 9 ∷ constant (int 0xC000_0000_0000_0000) ∷ constant (int 0) ∷ stays Div 5 1 ∷
     stays Div 5 5 ∷ stays Div 6 5 ∷ []
-unfolding xor addW subW mulW divW ltW asInt asBool with-both with-one divide shift apply1 apply2 known-value known-expr folded fold1 fold2 is-int is-bool identity ordered simplify1 simplify2 simplify
+unfolding all-of-numbering
 divides = refl
 
 -- one number with itself; both known
 pub equals :
     map (of-two Eq) ((5, 5) ∷ (1, 1) ∷ (1, 2) ∷ (6, 5) ∷ (5, 6) ∷ (5, 0) ∷ []) ≡
     constant (bool true) ∷ constant (bool true) ∷ constant (bool false) ∷ stays Eq 5 6 ∷ stays Eq 5 6 ∷ stays Eq 0 5 ∷ []
-unfolding xor addW subW mulW divW ltW asInt asBool with-both with-one divide shift apply1 apply2 known-value known-expr folded fold1 fold2 is-int is-bool identity ordered simplify1 simplify2 simplify
+unfolding all-of-numbering
 equals = refl
 
 -- -1 and 0, then unknown operands, which keep their order
@@ -86,31 +87,31 @@ pub compares :
     (constant (bool true) ∷ stays Le 6 5 ∷ stays Le 5 5 ∷ []) ∷
     (constant (bool false) ∷ stays Ge 6 5 ∷ stays Ge 5 5 ∷ []) ∷
     []
-unfolding xor addW subW mulW divW ltW asInt asBool with-both with-one divide shift apply1 apply2 known-value known-expr folded fold1 fold2 is-int is-bool identity ordered simplify1 simplify2 simplify
+unfolding all-of-numbering
 compares = refl
 
 -- false and y, true and y, likewise on the other side; dually for or; none for one number with itself
 pub ands :
     map (of-two And) ((3, 5) ∷ (5, 3) ∷ (4, 5) ∷ (5, 4) ∷ (3, 4) ∷ (6, 5) ∷ (5, 5) ∷ []) ≡
     constant (bool false) ∷ constant (bool false) ∷ id-of 5 ∷ id-of 5 ∷ constant (bool false) ∷ stays And 5 6 ∷ stays And 5 5 ∷ []
-unfolding xor addW subW mulW divW ltW asInt asBool with-both with-one divide shift apply1 apply2 known-value known-expr folded fold1 fold2 is-int is-bool identity ordered simplify1 simplify2 simplify
+unfolding all-of-numbering
 ands = refl
 
 pub ors :
     map (of-two Or) ((3, 5) ∷ (5, 3) ∷ (4, 5) ∷ (5, 4) ∷ (3, 4) ∷ (6, 5) ∷ (5, 5) ∷ []) ≡
     id-of 5 ∷ id-of 5 ∷ constant (bool true) ∷ constant (bool true) ∷ constant (bool true) ∷ stays Or 5 6 ∷ stays Or 5 5 ∷ []
-unfolding xor addW subW mulW divW ltW asInt asBool with-both with-one divide shift apply1 apply2 known-value known-expr folded fold1 fold2 is-int is-bool identity ordered simplify1 simplify2 simplify
+unfolding all-of-numbering
 ors = refl
 
 -- p ptradd 0 is id p
 pub shifts :
     map (of-two PtrAdd) ((5, 0) ∷ (5, 1) ∷ (6, 5) ∷ []) ≡ id-of 5 ∷ stays PtrAdd 5 1 ∷ stays PtrAdd 6 5 ∷ []
-unfolding xor addW subW mulW divW ltW asInt asBool with-both with-one divide shift apply1 apply2 known-value known-expr folded fold1 fold2 is-int is-bool identity ordered simplify1 simplify2 simplify
+unfolding all-of-numbering
 shifts = refl
 
 -- not folds; id of a known constant is that constant, and an int literal in a float is never known
 pub ones :
     map simplified (one Not (vn 3) ∷ one Not (vn 5) ∷ one Id (vn 2) ∷ one Id (vn 4) ∷ one Id (vn 5) ∷ one Id (vn 7) ∷ []) ≡
     constant (bool true) ∷ one Not (vn 5) ∷ constant (int 2) ∷ constant (bool true) ∷ id-of 5 ∷ id-of 7 ∷ []
-unfolding xor addW subW mulW divW ltW asInt asBool with-both with-one divide shift apply1 apply2 known-value known-expr folded fold1 fold2 is-int is-bool identity ordered simplify1 simplify2 simplify
+unfolding all-of-numbering
 ones = refl

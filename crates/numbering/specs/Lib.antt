@@ -6,6 +6,7 @@ pub mod Rewrite
 pub mod NameText
 pub mod Ways
 pub mod Program
+pub mod Opened
 pub mod Examples
 pub mod Folds
 pub mod Turns

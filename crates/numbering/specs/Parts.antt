@@ -5,17 +5,10 @@ use mathlib.Core.Path.{_≡_, refl}
 use mathlib.Core.Bool.{Bool, true, false}
 use mathlib.Core.List.{List, [], _∷_, _++_, map}
 use lib.ListN.{replicate}
-use Rattle.arith.specs.Value.{typeOf, inRange}
-use Rattle.record.specs.Answer.{Returned, number, literal-of}
-use Rattle.record.specs.Hex.{digit-value, bytes-from, hex}
-use Rattle.record.specs.Read.{name-index, literal, arguments, operands, instr, block, name, names, length-field, end, contents, read}
-use Rattle.record.specs.Reader.{give, _>>=_, here, field, text, if-there, times}
-use Rattle.record.specs.Record.{type-in, id-bytes}
-use Rattle.record.specs.Shape.{shape-of}
-use Rattle.record.specs.Tests.{any, at-most, below, length-test, version-test, names-test, type-test, text-length-test, text-test, saves-test, code-test, count-test, literal-test}
-use Rattle.record.specs.Text.{all-text, well-formed, undigited, reserved, same-bytes, among}
-use Rattle.record.specs.Typing.{obeys, well-typed, body-types, block-types, accept}
-use Rattle.numbering.specs.NameText.{Part, bytes-of, name-answer, name-part, choose, from-parts, with-input, name-text}
+use Rattle.record.specs.Answer.{Returned}
+use Rattle.record.specs.Hex.{hex}
+use Rattle.numbering.specs.NameText.{Part, bytes-of, name-answer, name-text}
+use Rattle.numbering.specs.Opened.{all-of-numbering}
 
 -- the number and values of the answer, the part and its bytes
 pub record Told : Type 0 where
@@ -105,7 +98,7 @@ pub texts-found :
     of-rewriting 522 0 "" ∷
     refused 6 0 ∷
     []
-unfolding typeOf inRange number literal-of digit-value bytes-from hex name-index literal arguments operands instr block name names length-field end contents read give _>>=_ here field text if-there times type-in id-bytes shape-of any at-most below length-test version-test names-test type-test text-length-test text-test saves-test code-test count-test literal-test all-text well-formed undigited reserved same-bytes among obeys well-typed body-types block-types accept name-answer name-part choose from-parts with-input name-text
+unfolding all-of-numbering
 texts-found = refl
 
 -- "then 11, at offset 0": every row has one cause alone
@@ -140,7 +133,7 @@ pub mismatches :
     (two, ("00000006 01 00 0000 0000", 0)) ∷
     []) ≡
     replicate 21 (refused 11 0)
-unfolding typeOf inRange number literal-of digit-value bytes-from hex name-index literal arguments operands instr block name names length-field end contents read give _>>=_ here field text if-there times type-in id-bytes shape-of any at-most below length-test version-test names-test type-test text-length-test text-test saves-test code-test count-test literal-test all-text well-formed undigited reserved same-bytes among obeys well-typed body-types block-types accept name-answer name-part choose from-parts with-input name-text
+unfolding all-of-numbering
 mismatches = refl
 
 -- "Check's refusals on the input", whatever the rewriting and the index
@@ -162,5 +155,5 @@ pub input-refused :
     refused 6 20 ∷
     refused 7 17 ∷
     []
-unfolding typeOf inRange number literal-of digit-value bytes-from hex name-index literal arguments operands instr block name names length-field end contents read give _>>=_ here field text if-there times type-in id-bytes shape-of any at-most below length-test version-test names-test type-test text-length-test text-test saves-test code-test count-test literal-test all-text well-formed undigited reserved same-bytes among obeys well-typed body-types block-types accept name-answer name-part choose from-parts with-input name-text
+unfolding all-of-numbering
 input-refused = refl

@@ -3,13 +3,11 @@ use Prim.Native.Nat.{ℕ}
 use mathlib.Core.Path.{_≡_, refl}
 use mathlib.Core.List.{List, [], _∷_, map}
 use lib.ListN.{replicate}
-use Rattle.record.specs.Answer.{number}
-use Rattle.record.specs.Hex.{digit-value, bytes-from, hex}
+use Rattle.record.specs.Hex.{hex}
 use Rattle.record.specs.declared.Refusal.the-variants.{Length, Place}
 use Rattle.numbering.specs.declared.Rewritten.the-variants.{Written, Refused, Room}
-use Rattle.numbering.specs.Made.{digits-of, digits}
-use Rattle.numbering.specs.Rewrite.{rewrite-answer}
-use Rattle.numbering.specs.Program.{most-input, buffer-size, refused-line, shown, output-with, program-output}
+use Rattle.numbering.specs.Program.{most-input, buffer-size, shown, output-with, program-output}
+use Rattle.numbering.specs.Opened.{all-of-numbering}
 
 pub sizes : (most-input ≡ 8192) × (buffer-size ≡ 65536)
 sizes = (refl, refl)
@@ -27,5 +25,5 @@ pub shows :
     hex "72 65 66 75 73 65 64 20 38 20 61 74 20 38 31 39 31 0A" ∷
     hex "72 65 66 75 73 65 64 20 39 20 61 74 20 36 35 35 33 37 0A" ∷
     []
-unfolding shown refused-line rewrite-answer number digits-of digits digit-value bytes-from hex
+unfolding all-of-numbering
 shows = refl

@@ -1,23 +1,16 @@
 -- "One block" by example, a block and what is written of it: the order of numbers, values that are new each time, and arguments replaced.
 use Prim.Native.Nat.{ℕ}
 use mathlib.Core.Path.{_≡_, refl}
-use mathlib.Core.Bool.{true, false, xor}
+use mathlib.Core.Bool.{true, false}
 use mathlib.Core.List.{List, [], _∷_, _++_, map}
-use native.Mathlib.Decide.{ℕ-discrete}
 use lib.ListN.{length}
-use Rattle.arith.specs.Code.{code1, code2, with-code, one-of, two-of}
-use Rattle.arith.specs.Map.{upd}
-use Rattle.arith.specs.Operation.{asInt, asBool, with-both, with-one, divide, shift, apply1, apply2}
 use Rattle.arith.specs.Value.{int, float, literal, char, bool}
-use Rattle.arith.specs.Word.{addW, subW, mulW, divW, ltW}
-use Rattle.record.specs.Form.{value-of, form}
 use Rattle.record.specs.Record.{Instr, type-in}
-use Rattle.record.specs.Shape.{shape-of}
 use Rattle.record.specs.Short.{gives, asks, set, does, tells, chooses, goes}
 use Rattle.record.specs.Tables.{count}
-use Rattle.numbering.specs.Number.{reads, numbered, literal-for, make-val, val-to-instr, save, save-at, handle-overwrite, find, get-val-num, number-dest, place, by-form, instr-lvn, block-lvn, is-save, count-saves, blocks-lvn, saved-in, made-from, lvn}
-use Rattle.numbering.specs.Simplify.{folded, fold1, fold2, is-int, is-bool, identity, ordered, simplify1, simplify2, simplify}
-use Rattle.numbering.specs.State.{start, new-number, update-env, rehome, see, gen-new-vals, number-of, home-of, known-value, known-expr, known}
+use Rattle.numbering.specs.Number.{literal-for, block-lvn, lvn}
+use Rattle.numbering.specs.State.{start}
+use Rattle.numbering.specs.Opened.{all-of-numbering}
 
 -- arguments A, the types of the names, a block, and what is written of it
 abbrev pub Row : Type 0
@@ -168,7 +161,7 @@ abbrev pub rows : List Row
 rows = left-to-right ++ (literals-twice ++ (homes-for-arguments ++ saves-made))
 
 pub turns : map (λ r. turned (r .0) (r .1) (r .2)) rows ≡ map (λ r. r .3) rows
-unfolding code1 code2 with-code one-of two-of upd asInt asBool with-both with-one divide shift apply1 apply2 addW subW mulW divW ltW value-of form type-in shape-of count reads numbered make-val val-to-instr save save-at handle-overwrite find get-val-num number-dest place by-form instr-lvn block-lvn is-save count-saves blocks-lvn saved-in made-from lvn folded fold1 fold2 is-int is-bool identity ordered simplify1 simplify2 simplify start new-number update-env rehome see gen-new-vals number-of home-of known-value known-expr known xor ℕ-discrete
+unfolding all-of-numbering count
 turns = refl
 
 -- the literal that a value is written as
@@ -182,7 +175,7 @@ abbrev pub twice : ℕ → List Instr
 twice c = gives 1 3 c (0 ∷ 1 ∷ []) ∷ gives 2 4 c (0 ∷ 1 ∷ []) ∷ gives 3 5 13 (4 ∷ []) ∷ []
 
 pub new-each-time : map (λ c. turned 2 ints (twice c)) (count 20 19) ≡ map twice (count 20 19)
-unfolding code1 code2 with-code one-of two-of upd asInt asBool with-both with-one divide shift apply1 apply2 addW subW mulW divW ltW value-of form type-in shape-of count reads numbered make-val val-to-instr save save-at handle-overwrite find get-val-num number-dest place by-form instr-lvn block-lvn is-save count-saves blocks-lvn saved-in made-from lvn folded fold1 fold2 is-int is-bool identity ordered simplify1 simplify2 simplify start new-number update-env rehome see gen-new-vals number-of home-of known-value known-expr known xor ℕ-discrete
+unfolding all-of-numbering count
 new-each-time = refl
 
 -- ---- "Per block": what one block has numbered no other knows; K, saves and types of made names run on
@@ -213,5 +206,5 @@ pub block-by-block :
           record { saves = 1; body = gives 8 7 13 (0 ∷ []) ∷ set 8 0 0 1 ∷ [] } ∷
           [];
     }
-unfolding code1 code2 with-code one-of two-of upd asInt asBool with-both with-one divide shift apply1 apply2 addW subW mulW divW ltW value-of form type-in shape-of count reads numbered make-val val-to-instr save save-at handle-overwrite find get-val-num number-dest place by-form instr-lvn block-lvn is-save count-saves blocks-lvn saved-in made-from lvn folded fold1 fold2 is-int is-bool identity ordered simplify1 simplify2 simplify start new-number update-env rehome see gen-new-vals number-of home-of known-value known-expr known xor ℕ-discrete
+unfolding all-of-numbering count
 block-by-block = refl

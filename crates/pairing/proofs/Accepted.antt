@@ -3,7 +3,7 @@
 use Prim.Native.Nat.{ℕ, _<_, _^_}
 use mathlib.Core.Path.{_≡_, refl, sym, ap, _∙_, subst}
 use mathlib.Core.List.{List, [], _∷_}
-use mathlib.Core.Bool.{Bool, true, false, not, _&&_, _||_}
+use mathlib.Core.Bool.{Bool, true, false, not, _||_}
 use native.Mathlib.Omega.{arith}
 use lib.ListN.{length, length-map}
 use lib.Dec.{T, eqb}
@@ -16,22 +16,22 @@ use Rattle.arith.specs.Code.{code1, code2, with-code, one-of, two-of}
 use Rattle.record.specs.declared.NameIx.{NameIx}
 use Rattle.record.specs.declared.Shape.{Shape}
 use Rattle.record.specs.declared.Limits.{Limits}
-use Rattle.record.specs.Record.{nm, Bytes, Instr, Placed, Block, Record, function, plain, type-in, arg, limits}
+use Rattle.record.specs.Record.{Bytes, Instr, Placed, Block, Record, function, plain, type-in, arg, limits}
 use Rattle.record.specs.Shape.{shape-of}
 use Rattle.record.specs.Reader.{got}
 use Rattle.record.specs.Form.{Form, pure, branch, form, value-of}
 use Rattle.record.specs.Typing.{well-typed, accept}
-use Rattle.record.specs.Good.{There, Each, IndexOk, ArgsOk, OperandsOk, InstrOk, BlockOk, RecordOk}
+use Rattle.record.specs.Good.{Each, OperandsOk, InstrOk, BlockOk, RecordOk}
 use Rattle.record.specs.Ranged.{RangedInstr, RangedBlock, Ranged}
-use Rattle.record.proofs.Tests.{and-left, and-right, at-most-le, below-lt, names-args, code-known, code-last}
+use Rattle.record.proofs.Tests.{at-most-le, names-args, code-known, code-last}
 use Rattle.record.proofs.Form.{FormOf, of-constant, of-one, of-two, of-new, of-jump, of-branch, of-return, of-nop, of-effect, form-of, all-below, at-known}
 use Rattle.record.proofs.Accepted.{read-ok}
 use Rattle.record.proofs.Ranged.{read-ranged}
 use Rattle.record.proofs.Typed.{TypedBody, TypedFunction, accept-typed}
-use Rattle.numbering.specs.Number.{reads}
-use Rattle.numbering.proofs.Codes.{reads-args}
+use Rattle.numbering.proofs.Codes.{reads-args, reads-below, instr-original}
 use Rattle.pairing.specs.Joint.{Typed}
-use Rattle.pairing.specs.Fit.{All, writes, terminates, FitInstr, FitBody, FitFunction}
+use Rattle.pairing.specs.Demand.{All}
+use Rattle.pairing.proofs.Fit.{terminates, FitInstr, FitBody, FitFunction}
 use Rattle.pairing.proofs.Rules.{one-typed, two-typed, fits-rule, branch-rule, constant-typed}
 
 -- ---- forms and shapes agree
@@ -49,32 +49,22 @@ abbrev recode : Instr → ℕ → Instr
 recode i c = record { id = i .id; code = c; dest = i .dest; lit = i .lit; args = i .args; callee = i .callee; blocks = i .blocks }
 
 abbrev agree : (NameIx → ℕ) → Instr → ℕ → Bool
-agree t i c = same (shape-of c .dest) (writes (form t (recode i c))) && same (shape-of c .last) (terminates (form t (recode i c)))
+agree t i c = same (shape-of c .last) (terminates (form t (recode i c)))
 
 -- computed at each code of the tables
 codes-agree : (t : NameIx → ℕ) (i : Instr) → all-below 72 (λ c. not (shape-of c .known) || agree t i c) ≡ true
-unfolding shape-of form writes terminates one-of two-of with-code code1 code2
+unfolding shape-of form terminates one-of two-of with-code code1 code2
 codes-agree t i = refl
 
 -- ---- lists
-indexes-below : (N : ℕ) (xs : List NameIx) → Each (λ left x. IndexOk N x) xs → All (λ x. x .0 < N) xs
-indexes-below N [] h = tt
-indexes-below N (x ∷ xs) h = (below-lt N (x .0) (h .0), indexes-below N xs (h .1))
-
 empty : {A : Type 0} (xs : List A) → length xs ≡ 0 → xs ≡ []
 empty [] e = refl
 empty (x ∷ xs) e = absurd (omega arith)
 
 -- ---- an instruction that passes its tests
 module _ {N B left : ℕ} (t : NameIx → ℕ) (i : Instr) (ok : InstrOk N B left i) where
-  agrees : agree t i (i .code) ≡ true
-  agrees = at-known (agree t i) (codes-agree t i) (i .code) (code-known (eqb left 0) (i .code) (ok .code))
-
-  dest-writes : shape-of (i .code) .dest ≡ writes (form t i)
-  dest-writes = same-eq _ _ (and-left (same (shape-of (i .code) .dest) (writes (form t i))) _ agrees)
-
   last-terminates : shape-of (i .code) .last ≡ terminates (form t i)
-  last-terminates = same-eq _ _ (and-right (same (shape-of (i .code) .dest) (writes (form t i))) _ agrees)
+  last-terminates = same-eq _ _ (at-known (agree t i) (codes-agree t i) (i .code) (code-known (eqb left 0) (i .code) (ok .code)))
 
   -- a terminator has nothing behind it
   stands-last : T (terminates (form t i)) → left ≡ 0
@@ -86,24 +76,6 @@ module _ {N B left : ℕ} (t : NameIx → ℕ) (i : Instr) (ok : InstrOk N B lef
   -- what follows a code of the shape sh
   operands-of : (sh : Shape) → shape-of (i .code) ≡ sh → OperandsOk N B sh i
   operands-of sh e = subst (λ (z : Shape). OperandsOk N B z i) e (ok .rest)
-
-  dest-below : T (writes (form t i)) → i .dest .0 < N
-  dest-below h = go (shape-of (i .code) .dest) (dest-writes ∙ is-true (writes (form t i)) h) (ok .rest .dest)
-    where
-      go : (b : Bool) → b ≡ true → There b (IndexOk N) (nm 0) (i .dest) → i .dest .0 < N
-      go true e k = below-lt N (i .dest .0) k
-      go false e k = clash (cc)
-
-  args-below : All (λ x. x .0 < N) (i .args)
-  args-below = go (shape-of (i .code)) (not (shape-of (i .code) .literal)) (i .args) (ok .rest .args)
-    where
-      go : (sh : Shape) (b : Bool) (xs : List NameIx) → There b (ArgsOk N sh) [] xs → All (λ x. x .0 < N) xs
-      go sh true xs h = indexes-below N xs (h .each)
-      go sh false xs h = rw h tt
-
-  -- what it reads are its arguments
-  read-below : All (λ x. x .0 < N) (reads (form t i))
-  read-below = subst (λ (xs : List NameIx). All (λ x. x .0 < N) xs) (sym (reads-args N B left t i ok)) args-below
 
   -- ---- types
   module _ (range : i .lit .bits < 256 ^ 8) (rule : well-typed t i ≡ true) where
@@ -145,10 +117,9 @@ module _ {N B left : ℕ} (t : NameIx → ℕ) (i : Instr) (ok : InstrOk N B lef
     pub instr-fit : FitInstr N t i
     instr-fit =
         record {
-          args = read-below;
+          args = reads-below N B left t i ok;
           all-read = reads-args N B left t i ok;
-          dest = dest-below;
-          shape = dest-writes;
+          original = instr-original N B left t i ok;
           typed = form-typed (form-of t i);
           tested = form-tested (form-of t i);
         }

@@ -21,7 +21,7 @@ use Rattle.numbering.specs.Number.{reads, is-save, count-saves}
 use Rattle.machine.specs.Machine.{Context, Stop, at-unset, Mach, Step, goes, tick, assign, finish, act, step, Out, falls, leaps, breaks, after, run-block}
 use Rattle.pairing.specs.Joint.{Setting, Joint, set-both, set-second, fresh, Elem, Paired, done, see, made, pair-pure, pair-constant, pair-new, pair-effect, pair-nop, pair-jump, pair-branch, pair-return}
 use Rattle.pairing.proofs.Valuation.{Valuation}
-use Rattle.pairing.proofs.Relation.{Related, made-related, seen-related, with-next}
+use Rattle.pairing.proofs.Relation.{Related, made-related, seen-valued}
 use Rattle.pairing.proofs.Unset.{step-unset}
 use Rattle.pairing.proofs.Steps.{Ahead, Alike, alike-by, Stepped, both-go, both-jump, both-end, first-unset, step-pure, step-constant, step-new, step-effect, step-return, step-nop, step-jump, step-branch}
 
@@ -144,7 +144,8 @@ see-left Γ j i is ks x h l ih ρ m₁ m₂ e p q R a = go (m₁ .store x) refl
         subst (λ (s : Step). Left Γ e ks q (after s p (run-block (Γ .ctx) is (suc p))) (run-block (Γ .ctx) ks q m₂))
         (sym (step-unset (Γ .ctx) i m₁ x h z)) breaks-unset
     go (some v) z =
-        ih (with-next Γ j ρ (m₁ .store) (m₂ .store) R v) m₁ m₂ e p q (seen-related Γ j ρ (m₁ .store) (m₂ .store) R x v l z) a
+        let u = seen-valued Γ j ρ (m₁ .store) (m₂ .store) R x v l z in
+        ih (u .ρ′) m₁ m₂ e p q (u .related) a
 
 -- ---- the block
 -- its end

@@ -1,202 +1,103 @@
 -- Instances of demand 3, computed: functions, stores and answers that meet every premise, with the events and the steps of both runs.
 use Prim.Native.Nat.{ℕ}
 use mathlib.Core.Path.{_≡_, refl}
-use mathlib.Core.Bool.{true, false, xor}
+use mathlib.Core.Bool.{true, false}
 use mathlib.Core.List.{List, [], _∷_, map}
 use mathlib.Core.Option.{Option, none, some}
-use native.Mathlib.Decide.{ℕ-discrete}
 use Rattle.arith.specs.Value.{Val, int, char, bool}
 use Rattle.arith.specs.Operation.{by-zero}
 use Rattle.record.specs.Record.{Instr, Block, limits}
 use Rattle.record.specs.Samples.{division, call, loop}
-use Rattle.arith.specs.Code.{code1, code2, with-code, one-of, two-of}
-use Rattle.arith.specs.Map.{upd}
-use Rattle.arith.specs.Operation.{asInt, asBool, with-both, with-one, divide, shift, apply1, apply2, eval}
-use Rattle.arith.specs.Value.{typeOf, inRange}
-use Rattle.arith.specs.Word.{minus-one, addW, subW, mulW, divW, ltW}
-use Rattle.record.specs.Form.{value-of, form}
-use Rattle.record.specs.Hex.{digit-value, bytes-from, hex}
-use Rattle.record.specs.Read.{name-index, literal, arguments, operands, instr, block, name, names, length-field, end, contents, read}
-use Rattle.record.specs.Reader.{give, _>>=_, here, field, text, if-there, times}
-use Rattle.record.specs.Record.{type-in, id-bytes}
-use Rattle.record.specs.Shape.{shape-of}
-use Rattle.record.specs.Tests.{any, at-most, below, length-test, version-test, names-test, type-test, text-length-test, text-test, saves-test, code-test, count-test, literal-test}
-use Rattle.record.specs.Text.{all-text, well-formed, undigited, reserved, same-bytes, among}
-use Rattle.record.specs.Typing.{obeys, well-typed, body-types, block-types, accept}
-use Rattle.numbering.specs.Number.{reads, numbered, make-val, val-to-instr, save, save-at, handle-overwrite, find, get-val-num, number-dest, place, by-form, instr-lvn, block-lvn, is-save, count-saves, blocks-lvn, saved-in, made-from, lvn}
-use Rattle.numbering.specs.Simplify.{folded, fold1, fold2, is-int, is-bool, identity, ordered, simplify1, simplify2, simplify}
-use Rattle.numbering.specs.State.{start, new-number, update-env, rehome, see, gen-new-vals, number-of, home-of, known-value, known-expr, known}
-use Rattle.machine.specs.Machine.{Answer, value, go-on, at-end, at-ret, at-halt, at-unset, at-division, before, stopped, tick, assign, happens, read-all, finish, take-value, answered, perform, ask, acknowledged, tell, leave, choose, act, step, run-block, nth, arrive, passes, through, advance-from, advance, begin, iterate, run-with, run}
-use Rattle.machine.specs.Reached.{reached-in, reached-from, reached-with, reached, is-set, all-set, none-unset, read-no-unset}
-use Rattle.machine.specs.Examples.{Summary, summary, store-of, function-of, event}
+use Rattle.arith.specs.Word.{minus-one}
+use Rattle.record.specs.Hex.{hex}
+use Rattle.record.specs.Typing.{accept}
+use Rattle.numbering.specs.Number.{lvn}
+use Rattle.machine.specs.Machine.{Answer, value, go-on, at-end, at-ret, at-halt, at-unset, at-division, Place, before, stopped}
+use Rattle.machine.specs.Examples.{Summary, summary, function-of, event, shows}
 use Rattle.pairing.specs.Demand.{next-block, stop, shown, saves-passed, saves-before, count-dests}
-use Rattle.pairing.specs.Premises.{are-bytes, typed, first-set, all-same}
-use Rattle.pairing.proofs.Instances.{Instance, meets, instance}
-
--- the run of a record's function and the run of its rewriting; the values are those of the original names
-abbrev first-run : List ℕ → List (Option Val) → List Answer → ℕ → Summary
-first-run s vs answers n = let f = function-of (accept limits s) in summary f (run f (store-of vs) answers n)
-
-abbrev second-run : List ℕ → List (Option Val) → List Answer → ℕ → Summary
-second-run s ws answers n = let f = function-of (accept limits s) in summary f (run (lvn f) (store-of ws) answers n)
+use Rattle.pairing.proofs.Instances.{Case, function-in, first-run, second-run, Instance, meets, instance}
+use Rattle.pairing.specs.Opened.{all-of-pairing}
 
 -- C5: x = 5; y = 5; x = 6; print y
 abbrev pub c5 : List ℕ
 c5 = hex "00000048 01 00 0002 000178 000179 0001 0004 0000 00000001 00 0000 00 0000000000000005 00000002 00 0001 00 0000000000000005 00000003 00 0000 00 0000000000000006 00000004 44 01 0001"
 
--- ---- C5, with a made name that holds a char at the start: one save, one step more
-pub c5-alike : Instance c5 (none ∷ none ∷ []) (none ∷ none ∷ some (char 97) ∷ []) (go-on ∷ []) 1
-unfolding code1 code2 with-code one-of two-of upd asInt asBool with-both with-one divide shift apply1 apply2 eval typeOf inRange addW subW mulW divW ltW value-of form digit-value bytes-from hex name-index literal arguments operands instr block name names length-field end contents read give _>>=_ here field text if-there times type-in id-bytes shape-of any at-most below length-test version-test names-test type-test text-length-test text-test saves-test code-test count-test literal-test all-text well-formed undigited reserved same-bytes among obeys well-typed body-types block-types accept reads numbered make-val val-to-instr save save-at handle-overwrite find get-val-num number-dest place by-form instr-lvn block-lvn is-save count-saves blocks-lvn saved-in made-from lvn folded fold1 fold2 is-int is-bool identity ordered simplify1 simplify2 simplify start new-number update-env rehome see gen-new-vals number-of home-of known-value known-expr known tick assign happens read-all finish take-value answered perform ask acknowledged tell leave choose act step run-block nth arrive passes through advance-from advance begin iterate run-with run xor ℕ-discrete are-bytes typed first-set all-same reached-in reached-from reached-with reached is-set all-set none-unset read-no-unset
-c5-alike = instance c5 (none ∷ none ∷ []) (none ∷ none ∷ some (char 97) ∷ []) (go-on ∷ []) 1 tt
+-- ---- the cases
+-- C5, with a made name that holds a char at the start: one save, one step more
+abbrev pub c5-case : Case
+c5-case =
+    record { bytes = c5; first = none ∷ none ∷ []; second = none ∷ none ∷ some (char 97) ∷ []; answers = go-on ∷ []; asked = 1 }
 
-pub c5-run :
-    first-run c5 (none ∷ none ∷ []) (go-on ∷ []) 1 ≡
-    record {
-      place = stopped at-end 1 0;
-      passed = 0 ∷ [];
-      events = event 4 68 0 (int 5 ∷ []) ∷ [];
-      answers = [];
-      values = some (int 6) ∷ some (int 5) ∷ [];
-      steps = 4;
-    }
-unfolding code1 code2 with-code one-of two-of upd asInt asBool with-both with-one divide shift apply1 apply2 eval typeOf inRange addW subW mulW divW ltW value-of form digit-value bytes-from hex name-index literal arguments operands instr block name names length-field end contents read give _>>=_ here field text if-there times type-in id-bytes shape-of any at-most below length-test version-test names-test type-test text-length-test text-test saves-test code-test count-test literal-test all-text well-formed undigited reserved same-bytes among obeys well-typed body-types block-types accept reads numbered make-val val-to-instr save save-at handle-overwrite find get-val-num number-dest place by-form instr-lvn block-lvn is-save count-saves blocks-lvn saved-in made-from lvn folded fold1 fold2 is-int is-bool identity ordered simplify1 simplify2 simplify start new-number update-env rehome see gen-new-vals number-of home-of known-value known-expr known tick assign happens read-all finish take-value answered perform ask acknowledged tell leave choose act step run-block nth arrive passes through advance-from advance begin iterate run-with run xor ℕ-discrete are-bytes typed first-set all-same
-c5-run = refl
+-- both runs start alike
+abbrev from : List ℕ → List (Option Val) → List Answer → ℕ → Case
+from s vs xs n = record { bytes = s; first = vs; second = vs; answers = xs; asked = n }
 
-pub c5-rewritten-run :
-    second-run c5 (none ∷ none ∷ some (char 97) ∷ []) (go-on ∷ []) 1 ≡
-    record {
-      place = stopped at-end 1 0;
-      passed = 0 ∷ [];
-      events = event 4 68 0 (int 5 ∷ []) ∷ [];
-      answers = [];
-      values = some (int 6) ∷ some (int 5) ∷ [];
-      steps = 5;
-    }
-unfolding code1 code2 with-code one-of two-of upd asInt asBool with-both with-one divide shift apply1 apply2 eval typeOf inRange addW subW mulW divW ltW value-of form digit-value bytes-from hex name-index literal arguments operands instr block name names length-field end contents read give _>>=_ here field text if-there times type-in id-bytes shape-of any at-most below length-test version-test names-test type-test text-length-test text-test saves-test code-test count-test literal-test all-text well-formed undigited reserved same-bytes among obeys well-typed body-types block-types accept reads numbered make-val val-to-instr save save-at handle-overwrite find get-val-num number-dest place by-form instr-lvn block-lvn is-save count-saves blocks-lvn saved-in made-from lvn folded fold1 fold2 is-int is-bool identity ordered simplify1 simplify2 simplify start new-number update-env rehome see gen-new-vals number-of home-of known-value known-expr known tick assign happens read-all finish take-value answered perform ask acknowledged tell leave choose act step run-block nth arrive passes through advance-from advance begin iterate run-with run xor ℕ-discrete are-bytes typed first-set all-same
-c5-rewritten-run = refl
+-- a division by zero: the save before it is counted
+abbrev pub division-case : Case
+division-case = from division (some (int 0) ∷ none ∷ []) [] 3
 
--- ---- a division by zero: the save before it is counted
-pub division-alike : Instance division (some (int 0) ∷ none ∷ []) (some (int 0) ∷ none ∷ []) [] 3
-unfolding code1 code2 with-code one-of two-of upd asInt asBool with-both with-one divide shift apply1 apply2 eval typeOf inRange addW subW mulW divW ltW value-of form digit-value bytes-from hex name-index literal arguments operands instr block name names length-field end contents read give _>>=_ here field text if-there times type-in id-bytes shape-of any at-most below length-test version-test names-test type-test text-length-test text-test saves-test code-test count-test literal-test all-text well-formed undigited reserved same-bytes among obeys well-typed body-types block-types accept reads numbered make-val val-to-instr save save-at handle-overwrite find get-val-num number-dest place by-form instr-lvn block-lvn is-save count-saves blocks-lvn saved-in made-from lvn folded fold1 fold2 is-int is-bool identity ordered simplify1 simplify2 simplify start new-number update-env rehome see gen-new-vals number-of home-of known-value known-expr known tick assign happens read-all finish take-value answered perform ask acknowledged tell leave choose act step run-block nth arrive passes through advance-from advance begin iterate run-with run xor ℕ-discrete are-bytes typed first-set all-same reached-in reached-from reached-with reached is-set all-set none-unset read-no-unset
-division-alike = instance division (some (int 0) ∷ none ∷ []) (some (int 0) ∷ none ∷ []) [] 3 tt
+-- an answer that does not fit: a bool for an int
+abbrev pub call-case : Case
+call-case = from call (some (int 5) ∷ []) (value (bool true) ∷ go-on ∷ []) 1
 
-pub division-run :
-    first-run division (some (int 0) ∷ none ∷ []) [] 3 ≡
-    record {
-      place = stopped (at-division 2 by-zero) 0 1;
-      passed = [];
-      events = [];
-      answers = [];
-      values = some (int 0) ∷ some (int 7) ∷ [];
-      steps = 2;
-    }
-unfolding code1 code2 with-code one-of two-of upd asInt asBool with-both with-one divide shift apply1 apply2 eval typeOf inRange addW subW mulW divW ltW value-of form digit-value bytes-from hex name-index literal arguments operands instr block name names length-field end contents read give _>>=_ here field text if-there times type-in id-bytes shape-of any at-most below length-test version-test names-test type-test text-length-test text-test saves-test code-test count-test literal-test all-text well-formed undigited reserved same-bytes among obeys well-typed body-types block-types accept reads numbered make-val val-to-instr save save-at handle-overwrite find get-val-num number-dest place by-form instr-lvn block-lvn is-save count-saves blocks-lvn saved-in made-from lvn folded fold1 fold2 is-int is-bool identity ordered simplify1 simplify2 simplify start new-number update-env rehome see gen-new-vals number-of home-of known-value known-expr known tick assign happens read-all finish take-value answered perform ask acknowledged tell leave choose act step run-block nth arrive passes through advance-from advance begin iterate run-with run xor ℕ-discrete are-bytes typed first-set all-same
-division-run = refl
+-- a loop passed twice, its save counted each time
+abbrev pub loop-case : Case
+loop-case = from loop (some (int 2) ∷ some (int minus-one) ∷ some (int 0) ∷ none ∷ []) (go-on ∷ go-on ∷ []) 4
 
-pub division-rewritten-run :
-    second-run division (some (int 0) ∷ none ∷ []) [] 3 ≡
-    record {
-      place = stopped (at-division 2 by-zero) 0 2;
-      passed = [];
-      events = [];
-      answers = [];
-      values = some (int 0) ∷ some (int 7) ∷ [];
-      steps = 3;
-    }
-unfolding code1 code2 with-code one-of two-of upd asInt asBool with-both with-one divide shift apply1 apply2 eval typeOf inRange addW subW mulW divW ltW value-of form digit-value bytes-from hex name-index literal arguments operands instr block name names length-field end contents read give _>>=_ here field text if-there times type-in id-bytes shape-of any at-most below length-test version-test names-test type-test text-length-test text-test saves-test code-test count-test literal-test all-text well-formed undigited reserved same-bytes among obeys well-typed body-types block-types accept reads numbered make-val val-to-instr save save-at handle-overwrite find get-val-num number-dest place by-form instr-lvn block-lvn is-save count-saves blocks-lvn saved-in made-from lvn folded fold1 fold2 is-int is-bool identity ordered simplify1 simplify2 simplify start new-number update-env rehome see gen-new-vals number-of home-of known-value known-expr known tick assign happens read-all finish take-value answered perform ask acknowledged tell leave choose act step run-block nth arrive passes through advance-from advance begin iterate run-with run xor ℕ-discrete are-bytes typed first-set all-same
-division-rewritten-run = refl
+-- print a | print y, which is not set: the first block's runs are alike, and more is not said
+abbrev pub unset-later : ℕ → Case
+unset-later n =
+    from (hex "00000024 01 01 0002 000161 000179 0002 0001 0000 00000001 44 01 0000 0001 0000 00000002 44 01 0001")
+    (some (int 5) ∷ none ∷ []) (go-on ∷ go-on ∷ []) n
 
--- ---- an answer that does not fit: a bool for an int
-pub call-alike : Instance call (some (int 5) ∷ []) (some (int 5) ∷ []) (value (bool true) ∷ go-on ∷ []) 1
-unfolding code1 code2 with-code one-of two-of upd asInt asBool with-both with-one divide shift apply1 apply2 eval typeOf inRange addW subW mulW divW ltW value-of form digit-value bytes-from hex name-index literal arguments operands instr block name names length-field end contents read give _>>=_ here field text if-there times type-in id-bytes shape-of any at-most below length-test version-test names-test type-test text-length-test text-test saves-test code-test count-test literal-test all-text well-formed undigited reserved same-bytes among obeys well-typed body-types block-types accept reads numbered make-val val-to-instr save save-at handle-overwrite find get-val-num number-dest place by-form instr-lvn block-lvn is-save count-saves blocks-lvn saved-in made-from lvn folded fold1 fold2 is-int is-bool identity ordered simplify1 simplify2 simplify start new-number update-env rehome see gen-new-vals number-of home-of known-value known-expr known tick assign happens read-all finish take-value answered perform ask acknowledged tell leave choose act step run-block nth arrive passes through advance-from advance begin iterate run-with run xor ℕ-discrete are-bytes typed first-set all-same reached-in reached-from reached-with reached is-set all-set none-unset read-no-unset
-call-alike = instance call (some (int 5) ∷ []) (some (int 5) ∷ []) (value (bool true) ∷ go-on ∷ []) 1 tt
+-- ---- each meets every premise
+pub cases-alike : Instance c5-case × Instance division-case × Instance call-case × Instance loop-case × Instance (unset-later 1)
+unfolding all-of-pairing
+cases-alike =
+    (instance c5-case tt, instance division-case tt, instance call-case tt, instance loop-case tt, instance (unset-later 1) tt)
 
-pub call-run :
-    first-run call (some (int 5) ∷ []) (value (bool true) ∷ go-on ∷ []) 1 ≡
-    record {
-      place = stopped at-halt 0 0;
-      passed = [];
-      events = event 1 20 3 (int 5 ∷ []) ∷ [];
-      answers = go-on ∷ [];
-      values = some (int 5) ∷ [];
-      steps = 1;
-    }
-unfolding code1 code2 with-code one-of two-of upd asInt asBool with-both with-one divide shift apply1 apply2 eval typeOf inRange addW subW mulW divW ltW value-of form digit-value bytes-from hex name-index literal arguments operands instr block name names length-field end contents read give _>>=_ here field text if-there times type-in id-bytes shape-of any at-most below length-test version-test names-test type-test text-length-test text-test saves-test code-test count-test literal-test all-text well-formed undigited reserved same-bytes among obeys well-typed body-types block-types accept reads numbered make-val val-to-instr save save-at handle-overwrite find get-val-num number-dest place by-form instr-lvn block-lvn is-save count-saves blocks-lvn saved-in made-from lvn folded fold1 fold2 is-int is-bool identity ordered simplify1 simplify2 simplify start new-number update-env rehome see gen-new-vals number-of home-of known-value known-expr known tick assign happens read-all finish take-value answered perform ask acknowledged tell leave choose act step run-block nth arrive passes through advance-from advance begin iterate run-with run xor ℕ-discrete are-bytes typed first-set all-same
-call-run = refl
-
-pub call-rewritten-run :
-    second-run call (some (int 5) ∷ []) (value (bool true) ∷ go-on ∷ []) 1 ≡
-    record {
-      place = stopped at-halt 0 1;
-      passed = [];
-      events = event 1 20 3 (int 5 ∷ []) ∷ [];
-      answers = go-on ∷ [];
-      values = some (int 5) ∷ [];
-      steps = 2;
-    }
-unfolding code1 code2 with-code one-of two-of upd asInt asBool with-both with-one divide shift apply1 apply2 eval typeOf inRange addW subW mulW divW ltW value-of form digit-value bytes-from hex name-index literal arguments operands instr block name names length-field end contents read give _>>=_ here field text if-there times type-in id-bytes shape-of any at-most below length-test version-test names-test type-test text-length-test text-test saves-test code-test count-test literal-test all-text well-formed undigited reserved same-bytes among obeys well-typed body-types block-types accept reads numbered make-val val-to-instr save save-at handle-overwrite find get-val-num number-dest place by-form instr-lvn block-lvn is-save count-saves blocks-lvn saved-in made-from lvn folded fold1 fold2 is-int is-bool identity ordered simplify1 simplify2 simplify start new-number update-env rehome see gen-new-vals number-of home-of known-value known-expr known tick assign happens read-all finish take-value answered perform ask acknowledged tell leave choose act step run-block nth arrive passes through advance-from advance begin iterate run-with run xor ℕ-discrete are-bytes typed first-set all-same
-call-rewritten-run = refl
-
--- ---- a loop passed twice, its save counted each time
-pub loop-alike : Instance loop (some (int 2) ∷ some (int minus-one) ∷ some (int 0) ∷ none ∷ []) (some (int 2) ∷ some (int minus-one) ∷ some (int 0) ∷ none ∷ []) (go-on ∷ go-on ∷ []) 4
-unfolding code1 code2 with-code one-of two-of upd asInt asBool with-both with-one divide shift apply1 apply2 eval typeOf inRange addW subW mulW divW ltW value-of form digit-value bytes-from hex name-index literal arguments operands instr block name names length-field end contents read give _>>=_ here field text if-there times type-in id-bytes shape-of any at-most below length-test version-test names-test type-test text-length-test text-test saves-test code-test count-test literal-test all-text well-formed undigited reserved same-bytes among obeys well-typed body-types block-types accept reads numbered make-val val-to-instr save save-at handle-overwrite find get-val-num number-dest place by-form instr-lvn block-lvn is-save count-saves blocks-lvn saved-in made-from lvn folded fold1 fold2 is-int is-bool identity ordered simplify1 simplify2 simplify start new-number update-env rehome see gen-new-vals number-of home-of known-value known-expr known tick assign happens read-all finish take-value answered perform ask acknowledged tell leave choose act step run-block nth arrive passes through advance-from advance begin iterate run-with run xor ℕ-discrete are-bytes typed first-set all-same reached-in reached-from reached-with reached is-set all-set none-unset read-no-unset
-loop-alike = instance loop (some (int 2) ∷ some (int minus-one) ∷ some (int 0) ∷ none ∷ []) (some (int 2) ∷ some (int minus-one) ∷ some (int 0) ∷ none ∷ []) (go-on ∷ go-on ∷ []) 4 tt
-
-pub loop-run :
-    first-run loop (some (int 2) ∷ some (int minus-one) ∷ some (int 0) ∷ none ∷ []) (go-on ∷ go-on ∷ []) 4 ≡
-    record {
-      place = stopped at-ret 1 0;
-      passed = 0 ∷ 0 ∷ [];
-      events = event 2 68 0 (int 1 ∷ []) ∷ event 2 68 0 (int 0 ∷ []) ∷ event 5 66 0 (int 0 ∷ []) ∷ [];
-      answers = [];
-      values = some (int 0) ∷ some (int minus-one) ∷ some (int 0) ∷ some (bool false) ∷ [];
-      steps = 9;
-    }
-unfolding code1 code2 with-code one-of two-of upd asInt asBool with-both with-one divide shift apply1 apply2 eval typeOf inRange addW subW mulW divW ltW value-of form digit-value bytes-from hex name-index literal arguments operands instr block name names length-field end contents read give _>>=_ here field text if-there times type-in id-bytes shape-of any at-most below length-test version-test names-test type-test text-length-test text-test saves-test code-test count-test literal-test all-text well-formed undigited reserved same-bytes among obeys well-typed body-types block-types accept reads numbered make-val val-to-instr save save-at handle-overwrite find get-val-num number-dest place by-form instr-lvn block-lvn is-save count-saves blocks-lvn saved-in made-from lvn folded fold1 fold2 is-int is-bool identity ordered simplify1 simplify2 simplify start new-number update-env rehome see gen-new-vals number-of home-of known-value known-expr known tick assign happens read-all finish take-value answered perform ask acknowledged tell leave choose act step run-block nth arrive passes through advance-from advance begin iterate run-with run xor ℕ-discrete are-bytes typed first-set all-same
-loop-run = refl
-
-pub loop-rewritten-run :
-    second-run loop (some (int 2) ∷ some (int minus-one) ∷ some (int 0) ∷ none ∷ []) (go-on ∷ go-on ∷ []) 4 ≡
-    record {
-      place = stopped at-ret 1 0;
-      passed = 0 ∷ 0 ∷ [];
-      events = event 2 68 0 (int 1 ∷ []) ∷ event 2 68 0 (int 0 ∷ []) ∷ event 5 66 0 (int 0 ∷ []) ∷ [];
-      answers = [];
-      values = some (int 0) ∷ some (int minus-one) ∷ some (int 0) ∷ some (bool false) ∷ [];
-      steps = 11;
-    }
-unfolding code1 code2 with-code one-of two-of upd asInt asBool with-both with-one divide shift apply1 apply2 eval typeOf inRange addW subW mulW divW ltW value-of form digit-value bytes-from hex name-index literal arguments operands instr block name names length-field end contents read give _>>=_ here field text if-there times type-in id-bytes shape-of any at-most below length-test version-test names-test type-test text-length-test text-test saves-test code-test count-test literal-test all-text well-formed undigited reserved same-bytes among obeys well-typed body-types block-types accept reads numbered make-val val-to-instr save save-at handle-overwrite find get-val-num number-dest place by-form instr-lvn block-lvn is-save count-saves blocks-lvn saved-in made-from lvn folded fold1 fold2 is-int is-bool identity ordered simplify1 simplify2 simplify start new-number update-env rehome see gen-new-vals number-of home-of known-value known-expr known tick assign happens read-all finish take-value answered perform ask acknowledged tell leave choose act step run-block nth arrive passes through advance-from advance begin iterate run-with run xor ℕ-discrete are-bytes typed first-set all-same
-loop-rewritten-run = refl
-
--- ---- a name that is not set is read in the second block: the first block's runs are alike, and more is not said
--- print a | print y
-abbrev pub unset-later : List ℕ
-unset-later = hex "00000024 01 01 0002 000161 000179 0002 0001 0000 00000001 44 01 0000 0001 0000 00000002 44 01 0001"
-
-pub unset-later-alike : Instance unset-later (some (int 5) ∷ none ∷ []) (some (int 5) ∷ none ∷ []) (go-on ∷ go-on ∷ []) 1
-unfolding code1 code2 with-code one-of two-of upd asInt asBool with-both with-one divide shift apply1 apply2 eval typeOf inRange addW subW mulW divW ltW value-of form digit-value bytes-from hex name-index literal arguments operands instr block name names length-field end contents read give _>>=_ here field text if-there times type-in id-bytes shape-of any at-most below length-test version-test names-test type-test text-length-test text-test saves-test code-test count-test literal-test all-text well-formed undigited reserved same-bytes among obeys well-typed body-types block-types accept reads numbered make-val val-to-instr save save-at handle-overwrite find get-val-num number-dest place by-form instr-lvn block-lvn is-save count-saves blocks-lvn saved-in made-from lvn folded fold1 fold2 is-int is-bool identity ordered simplify1 simplify2 simplify start new-number update-env rehome see gen-new-vals number-of home-of known-value known-expr known tick assign happens read-all finish take-value answered perform ask acknowledged tell leave choose act step run-block nth arrive passes through advance-from advance begin iterate run-with run xor ℕ-discrete are-bytes typed first-set all-same reached-in reached-from reached-with reached is-set all-set none-unset read-no-unset
-unset-later-alike = instance unset-later (some (int 5) ∷ none ∷ []) (some (int 5) ∷ none ∷ []) (go-on ∷ go-on ∷ []) 1 tt
-
-pub unset-later-read :
-    map (meets unset-later (some (int 5) ∷ none ∷ []) (some (int 5) ∷ none ∷ []) (go-on ∷ go-on ∷ [])) (0 ∷ 1 ∷ 2 ∷ 3 ∷ []) ≡
-    true ∷ true ∷ false ∷ false ∷ []
-unfolding code1 code2 with-code one-of two-of upd asInt asBool with-both with-one divide shift apply1 apply2 eval typeOf inRange addW subW mulW divW ltW value-of form digit-value bytes-from hex name-index literal arguments operands instr block name names length-field end contents read give _>>=_ here field text if-there times type-in id-bytes shape-of any at-most below length-test version-test names-test type-test text-length-test text-test saves-test code-test count-test literal-test all-text well-formed undigited reserved same-bytes among obeys well-typed body-types block-types accept reads numbered make-val val-to-instr save save-at handle-overwrite find get-val-num number-dest place by-form instr-lvn block-lvn is-save count-saves blocks-lvn saved-in made-from lvn folded fold1 fold2 is-int is-bool identity ordered simplify1 simplify2 simplify start new-number update-env rehome see gen-new-vals number-of home-of known-value known-expr known tick assign happens read-all finish take-value answered perform ask acknowledged tell leave choose act step run-block nth arrive passes through advance-from advance begin iterate run-with run xor ℕ-discrete are-bytes typed first-set all-same reached-in reached-from reached-with reached is-set all-set none-unset read-no-unset
+pub unset-later-read : map (λ n. meets (unset-later n)) (0 ∷ 1 ∷ 2 ∷ 3 ∷ []) ≡ true ∷ true ∷ false ∷ false ∷ []
+unfolding all-of-pairing
 unset-later-read = refl
+
+-- ---- what the run of the function and the run of its rewriting show; the values are those of the original names
+abbrev both-runs : Case → Summary × Summary
+both-runs c = let f = function-in c in (summary f (first-run c), summary f (second-run c))
+
+-- the same but for the place and the steps
+abbrev alike-but : (Place → ℕ → Summary) → Place → ℕ → Place → ℕ → Summary × Summary
+alike-but s p n q m = (s p n, s q m)
+
+pub cases-run :
+    map both-runs (c5-case ∷ division-case ∷ call-case ∷ loop-case ∷ []) ≡
+    alike-but (λ p n. shows p (0 ∷ []) (event 4 68 0 (int 5 ∷ []) ∷ []) [] (some (int 6) ∷ some (int 5) ∷ []) n)
+    (stopped at-end 1 0) 4 (stopped at-end 1 0) 5 ∷
+    alike-but (λ p n. shows p [] [] [] (some (int 0) ∷ some (int 7) ∷ []) n)
+    (stopped (at-division 2 by-zero) 0 1) 2 (stopped (at-division 2 by-zero) 0 2) 3 ∷
+    alike-but (λ p n. shows p [] (event 1 20 3 (int 5 ∷ []) ∷ []) (go-on ∷ []) (some (int 5) ∷ []) n)
+    (stopped at-halt 0 0) 1 (stopped at-halt 0 1) 2 ∷
+    alike-but
+    (λ p n. shows p (0 ∷ 0 ∷ []) (event 2 68 0 (int 1 ∷ []) ∷ event 2 68 0 (int 0 ∷ []) ∷ event 5 66 0 (int 0 ∷ []) ∷ []) []
+    (some (int 0) ∷ some (int minus-one) ∷ some (int 0) ∷ some (bool false) ∷ []) n)
+    (stopped at-ret 1 0) 9 (stopped at-ret 1 0) 11 ∷
+    []
+unfolding all-of-pairing
+cases-run = refl
 
 -- ---- what the statement counts and compares
 abbrev rewritten-blocks : List ℕ → List (Block Instr)
 rewritten-blocks s = lvn (function-of (accept limits s)) .blocks
 
--- the loop's block passed twice; before the division, before its save, and where nothing stopped
+-- the loop's block passed twice; before the division, before its save, and where nothing stopped; instructions with a dest in the division
 pub counted :
     saves-passed (rewritten-blocks loop) (0 ∷ 0 ∷ []) ∷
     saves-passed (rewritten-blocks loop) (1 ∷ 0 ∷ []) ∷
     saves-before 2 (rewritten-blocks division) (stopped (at-division 2 by-zero) 0 2) ∷
     saves-before 2 (rewritten-blocks division) (stopped (at-division 2 by-zero) 0 1) ∷
     saves-before 2 (rewritten-blocks division) (before 0) ∷
-    [] ≡
-    2 ∷ 1 ∷ 1 ∷ 0 ∷ 0 ∷ []
-unfolding code1 code2 with-code one-of two-of upd asInt asBool with-both with-one divide shift apply1 apply2 eval typeOf inRange addW subW mulW divW ltW value-of form digit-value bytes-from hex name-index literal arguments operands instr block name names length-field end contents read give _>>=_ here field text if-there times type-in id-bytes shape-of any at-most below length-test version-test names-test type-test text-length-test text-test saves-test code-test count-test literal-test all-text well-formed undigited reserved same-bytes among obeys well-typed body-types block-types accept reads numbered make-val val-to-instr save save-at handle-overwrite find get-val-num number-dest place by-form instr-lvn block-lvn is-save count-saves blocks-lvn saved-in made-from lvn folded fold1 fold2 is-int is-bool identity ordered simplify1 simplify2 simplify start new-number update-env rehome see gen-new-vals number-of home-of known-value known-expr known tick assign happens read-all finish take-value answered perform ask acknowledged tell leave choose act step run-block nth arrive passes through advance-from advance begin iterate run-with run xor ℕ-discrete are-bytes typed first-set all-same saves-passed saves-before
+    map (λ (b : Block Instr). count-dests (b .body)) (function-of (accept limits division) .blocks) ≡
+    2 ∷ 1 ∷ 1 ∷ 0 ∷ 0 ∷ 2 ∷ []
+unfolding all-of-pairing
 counted = refl
 
 -- a stop is shown by its kind, a division by id and cause, and where it stands in the block is not
@@ -211,8 +112,3 @@ pub compared :
     next-block 3 ∷ stop at-end ∷ stop at-ret ∷ stop at-halt ∷ stop at-unset ∷ stop (at-division 7 by-zero) ∷ []
 unfolding shown
 compared = refl
-
--- the division's function: two instructions with a dest
-pub destinations : map (λ (b : Block Instr). count-dests (b .body)) (function-of (accept limits division) .blocks) ≡ 2 ∷ []
-unfolding code1 code2 with-code one-of two-of upd asInt asBool with-both with-one divide shift apply1 apply2 eval typeOf inRange addW subW mulW divW ltW value-of form digit-value bytes-from hex name-index literal arguments operands instr block name names length-field end contents read give _>>=_ here field text if-there times type-in id-bytes shape-of any at-most below length-test version-test names-test type-test text-length-test text-test saves-test code-test count-test literal-test all-text well-formed undigited reserved same-bytes among obeys well-typed body-types block-types accept reads numbered make-val val-to-instr save save-at handle-overwrite find get-val-num number-dest place by-form instr-lvn block-lvn is-save count-saves blocks-lvn saved-in made-from lvn folded fold1 fold2 is-int is-bool identity ordered simplify1 simplify2 simplify start new-number update-env rehome see gen-new-vals number-of home-of known-value known-expr known tick assign happens read-all finish take-value answered perform ask acknowledged tell leave choose act step run-block nth arrive passes through advance-from advance begin iterate run-with run xor ℕ-discrete are-bytes typed first-set all-same count-dests
-destinations = refl

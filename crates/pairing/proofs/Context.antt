@@ -15,9 +15,11 @@ use Rattle.record.specs.Shape.{shape-of}
 use Rattle.record.specs.Form.{Form, pure, new, effect, return, nop, jump, branch, value-of, form}
 use Rattle.numbering.specs.State.{State}
 use Rattle.numbering.specs.Number.{operands, reads, instr-lvn, prepend, block-lvn}
+use Rattle.numbering.proofs.Saves.{Dests}
 use Rattle.machine.specs.Machine.{Store, Context, Answer, Mach, tick, ask, perform, act, step, after, run-block, Place, before, stopped, nth, passes, through, advance-from, advance, begin, iterate, run-with}
 use Rattle.pairing.specs.Joint.{Typed}
-use Rattle.pairing.specs.Fit.{All, writes, terminates, FitInstr, FitBody}
+use Rattle.pairing.specs.Demand.{All}
+use Rattle.pairing.proofs.Fit.{terminates, FitInstr, FitBody}
 
 abbrev pub FitBlocks : ℕ → (NameIx → ℕ) → List (Block Instr) → Type 0
 FitBlocks N t bs = All (λ (b : Block Instr). FitBody N t (b .body)) bs
@@ -34,21 +36,19 @@ fit-nth N t (x ∷ bs) h (suc n) b e = fit-nth N t bs (h .1) n b e
 -- ---- forms
 -- the form of an instruction over whether it is a const
 const-cong :
-    (b : Bool) (d d′ kind bits : ℕ) (other : Form) →
-    (T (writes (cond b (pure (constant (value-of d kind bits))) other)) → d′ ≡ d) →
+    (N : ℕ) (s : Bool) (x : NameIx) (b : Bool) (d d′ kind bits : ℕ) (other : Form) →
+    (x .0 < N → d′ ≡ d) →
+    Dests N s x (cond b (pure (constant (value-of d kind bits))) other) →
     cond b (pure (constant (value-of d′ kind bits))) other ≡ cond b (pure (constant (value-of d kind bits))) other
-unfolding writes
-const-cong true d d′ kind bits other h = ap (λ z. pure (constant (value-of z kind bits))) (h tt)
-const-cong false d d′ kind bits other h = refl
-
-pub form-cong :
-    (t t′ : NameIx → ℕ) (i : Instr) → (T (writes (form t i)) → t′ (i .dest) ≡ t (i .dest)) → form t′ i ≡ form t i
-unfolding form
-form-cong t t′ i h = const-cong (eqb (i .code) 0) (t (i .dest)) (t′ (i .dest)) (i .lit .kind) (i .lit .bits) _ h
+const-cong N s x true d d′ kind bits other e h = ap (λ z. pure (constant (value-of z kind bits))) (e (h .1))
+const-cong N s x false d d′ kind bits other e h = refl
 
 module _ (N : ℕ) (t t′ : NameIx → ℕ) (same : (x : NameIx) → x .0 < N → t′ x ≡ t x) where
   pub fit-form : (i : Instr) → FitInstr N t i → form t′ i ≡ form t i
-  fit-form i h = form-cong t t′ i (λ w. same (i .dest) (h .dest w))
+  unfolding form
+  fit-form i h =
+      const-cong N (shape-of (i .code) .dest) (i .dest) (eqb (i .code) 0) (t (i .dest)) (t′ (i .dest)) (i .lit .kind) (i .lit .bits) _
+      (same (i .dest)) (h .original)
 
   -- ---- what fits under t fits under t′
   typed-cong : (e : Expr NameIx) (d : ℕ) → All (λ x. x .0 < N) (operands e) → Typed t e d → Typed t′ e d
@@ -58,9 +58,9 @@ module _ (N : ℕ) (t t′ : NameIx → ℕ) (same : (x : NameIx) → x .0 < N �
   typed-cong (two o a b) d l h = rw (same a (l .0), same b (l .1 .0)) h
 
   fit-typed : (i : Instr) → FitInstr N t i → (e : Expr NameIx) → form t i ≡ pure e → Typed t′ e (t′ (i .dest))
-  unfolding reads writes
+  unfolding reads
   fit-typed i h e p =
-      subst (Typed t′ e) (sym (same (i .dest) (h .dest (subst (λ f. T (writes f)) (sym p) tt))))
+      subst (Typed t′ e) (sym (same (i .dest) (subst (Dests N (shape-of (i .code) .dest) (i .dest)) p (h .original) .1)))
       (typed-cong e (t (i .dest)) (subst (λ f. All (λ x. x .0 < N) (reads f)) p (h .args)) (h .typed e p))
 
   fit-tested : (i : Instr) → FitInstr N t i → (x : NameIx) (b c : ℕ) → form t i ≡ branch x b c → t′ x ≡ tbool
@@ -74,8 +74,7 @@ module _ (N : ℕ) (t t′ : NameIx → ℕ) (same : (x : NameIx) → x .0 < N �
       record {
         args = subst (λ f. All (λ x. x .0 < N) (reads f)) q (h .args);
         all-read = subst (λ f. reads f ≡ i .args) q (h .all-read);
-        dest = subst (λ f. T (writes f) → i .dest .0 < N) q (h .dest);
-        shape = subst (λ f. shape-of (i .code) .dest ≡ writes f) q (h .shape);
+        original = subst (Dests N (shape-of (i .code) .dest) (i .dest)) q (h .original);
         typed = λ e p. fit-typed i h e (q ∙ p);
         tested = λ x b c p. fit-tested i h x b c (q ∙ p);
       }
@@ -110,24 +109,25 @@ ask-cong c t i m none e = refl
 ask-cong c t i m (some vs) e = ap (λ d. perform d i m vs (c .performs (i .code) vs)) e
 
 act-cong :
-    (c : Context) (t : NameIx → ℕ) (i : Instr) (m : Mach) (f : Form) →
-    (T (writes f) → t (i .dest) ≡ c .types (i .dest)) →
+    (N : ℕ) (s : Bool) (c : Context) (t : NameIx → ℕ) (i : Instr) (m : Mach) (f : Form) →
+    (i .dest .0 < N → t (i .dest) ≡ c .types (i .dest)) →
+    Dests N s (i .dest) f →
     act (retyped c t) i m f ≡ act c i m f
-unfolding act writes
-act-cong c t i m (pure e) h = refl
-act-cong c t i m (new xs) h = ask-cong c t i m _ (h tt)
-act-cong c t i m (effect xs) h = refl
-act-cong c t i m (return xs) h = refl
-act-cong c t i m nop h = refl
-act-cong c t i m (jump b) h = refl
-act-cong c t i m (branch a b d) h = refl
+unfolding act
+act-cong N s c t i m (pure e) same h = refl
+act-cong N s c t i m (new xs) same h = ask-cong c t i m _ (same (h .1))
+act-cong N s c t i m (effect xs) same h = refl
+act-cong N s c t i m (return xs) same h = refl
+act-cong N s c t i m nop same h = refl
+act-cong N s c t i m (jump b) same h = refl
+act-cong N s c t i m (branch a b d) same h = refl
 
 module _ (N : ℕ) (c : Context) (t : NameIx → ℕ) (same : (x : NameIx) → x .0 < N → t x ≡ c .types x) where
   pub step-cong : (i : Instr) → FitInstr N (c .types) i → (m : Mach) → step (retyped c t) i m ≡ step c i m
   unfolding step
   step-cong i h m =
       ap (act (retyped c t) i (tick m)) (fit-form N (c .types) t same i h) ∙
-      act-cong c t i (tick m) (form (c .types) i) (λ w. same (i .dest) (h .dest w))
+      act-cong N (shape-of (i .code) .dest) c t i (tick m) (form (c .types) i) (same (i .dest)) (h .original)
 
   pub run-block-cong :
       (is : List Instr) → FitBody N (c .types) is → (p : ℕ) (m : Mach) → run-block (retyped c t) is p m ≡ run-block c is p m

@@ -8,22 +8,20 @@ use mathlib.Core.List.{List, [], _∷_, _++_}
 use mathlib.Core.Option.{Option·none-ne-some}
 use native.Mathlib.Nat.{add-zero}
 use native.Mathlib.Omega.{arith}
-use lib.Dec.{T}
 use lib.ListN.{length}
 use Rattle.arith.proofs.Clash.{clash}
 use Rattle.arith.specs.Value.{HasType}
 use Rattle.record.specs.declared.NameIx.{NameIx}
 use Rattle.record.specs.Record.{nm, Instr, Block, Function, names-of, type-in, arg}
 use Rattle.record.specs.Shape.{shape-of}
-use Rattle.record.specs.Form.{Form, pure, new, effect, return, nop, jump, branch, form}
 use Rattle.numbering.specs.State.{State, start}
 use Rattle.numbering.specs.Number.{instr-lvn, block-lvn, is-save, count-saves, blocks-lvn, saved-in, made-from, lvn}
-use Rattle.numbering.proofs.Saves.{Dests, Original, Originals, Saves, no-saves, one-save, instr-emits, emitted-no-save, save-is-save, Makes, no-more, a-save, another}
+use Rattle.numbering.proofs.Saves.{Originals, Saves, no-saves, one-save, instr-emits, emitted-no-save, save-is-save, Makes, no-more, a-save, another}
 use Rattle.numbering.proofs.Made.{MakesAll, lvn-makes, saved-in-save, saved-in-other, saved-in-length, OriginalBlocks, lvn-type-original, TypedFrom, lvn-typed, typed-left, typed-right}
 use Rattle.machine.specs.Machine.{Store, Context, plain-machine, Answer, at-unset, nth, run-with, run}
-use Rattle.pairing.specs.Demand.{shown, stop, saves-field, body-of, Agree, Starts, RunAlike, count-dests, SavesBounded}
+use Rattle.pairing.specs.Demand.{shown, stop, saves-field, body-of, Agree, Starts, RunAlike, count-dests, SavesBounded, All}
 use Rattle.pairing.specs.Joint.{Setting, Performed, Paired, start-joint, PairedBlocks, no-blocks, block-pair}
-use Rattle.pairing.specs.Fit.{All, writes, FitInstr, FitBody, FitFunction}
+use Rattle.pairing.proofs.Fit.{FitBody, FitFunction}
 use Rattle.pairing.proofs.Saving.{MadeTypes}
 use Rattle.pairing.proofs.Rewriting.{block-paired}
 use Rattle.pairing.proofs.Relation.{StartsIn}
@@ -32,23 +30,9 @@ use Rattle.pairing.proofs.Progress.{read-then-quiet}
 use Rattle.pairing.proofs.Context.{FitBlocks, fit-body, block-lvn-cong, run-with-cong}
 
 -- ---- an input's instructions
-fit-dests :
-    (N : ℕ) (d : Bool) (x : NameIx) (f : Form) → (T (writes f) → x .0 < N) → d ≡ writes f → Dests N d x f
-unfolding writes
-fit-dests N d x (pure e) h s = (s, h tt)
-fit-dests N d x (new xs) h s = (s, h tt)
-fit-dests N d x (effect xs) h s = s
-fit-dests N d x (return xs) h s = s
-fit-dests N d x nop h s = s
-fit-dests N d x (jump b) h s = s
-fit-dests N d x (branch a b c) h s = s
-
-fit-original : (N : ℕ) (t : NameIx → ℕ) (i : Instr) → FitInstr N t i → Original N t i
-fit-original N t i h = fit-dests N (shape-of (i .code) .dest) (i .dest) (form t i) (h .dest) (h .shape)
-
 pub fit-originals : (N : ℕ) (t : NameIx → ℕ) (is : List Instr) → FitBody N t is → Originals N t is
 fit-originals N t [] h = tt
-fit-originals N t (i ∷ is) h = (fit-original N t i (h .0), fit-originals N t is (h .1 .1))
+fit-originals N t (i ∷ is) h = (h .0 .original, fit-originals N t is (h .1 .1))
 
 pub fit-blocks :
     (N : ℕ) (t : NameIx → ℕ) (bs : List (Block Instr)) → FitBlocks N t bs → OriginalBlocks N t bs

@@ -10,7 +10,7 @@ use native.Mathlib.Omega.{arith}
 use lib.Dec.{T, ltb, ltb→lt}
 use borrow.Author.Tests.{lt-ltb}
 use Rattle.arith.specs.Map.{upd}
-use Rattle.arith.proofs.Map.{upd-same, upd-other, upd-ind}
+use Rattle.arith.proofs.Map.{upd-same, upd-other, upd-alike, upd-ind}
 use Rattle.arith.specs.Value.{Val}
 use Rattle.arith.specs.Operation.{Expr, constant}
 use Rattle.record.specs.declared.NameIx.{NameIx}
@@ -59,9 +59,7 @@ housed-new Γ s env₂ d e g l free typed =
       bound = λ v b. upd-ind ValNum-discrete (s .locs) new d v (λ x. x .0 < Γ .names + s .temps)
           (λ p. omega arith)
           (λ h. g .bound v (given-before v (s .next) b h));
-      agree = λ x b. upd-ind NameIx-discrete (s .env) d (some new) x (λ o. upd NameIx-discrete env₂ d (some new) x ≡ o)
-          (λ p. upd-same NameIx-discrete env₂ d (some new) x p)
-          (λ h. upd-other NameIx-discrete env₂ d (some new) x h ∙ g .agree x b);
+      agree = λ x b. upd-alike NameIx-discrete (s .env) env₂ d (some new) x (g .agree x b);
       given = λ x v b. upd-ind NameIx-discrete (s .env) d (some new) x (λ o. o ≡ some v → TypedNumber after v (Γ .ctx .types x))
           (λ p q. subst (λ z. TypedNumber after v (Γ .ctx .types z)) (sym p) (newest v (Option·some-injective new v q)))
           (λ h q. older v (Γ .ctx .types x) (g .given x v b q));
@@ -96,9 +94,7 @@ housed-set Γ s env₂ d n g sole typed =
           (λ p. ap some (sym (sole v b p)))
           (λ h. g .homes v b);
       bound = g .bound;
-      agree = λ x b. upd-ind NameIx-discrete (s .env) d (some n) x (λ o. upd NameIx-discrete env₂ d (some n) x ≡ o)
-          (λ p. upd-same NameIx-discrete env₂ d (some n) x p)
-          (λ h. upd-other NameIx-discrete env₂ d (some n) x h ∙ g .agree x b);
+      agree = λ x b. upd-alike NameIx-discrete (s .env) env₂ d (some n) x (g .agree x b);
       given = λ x v b. upd-ind NameIx-discrete (s .env) d (some n) x (λ o. o ≡ some v → TypedNumber s v (Γ .ctx .types x))
           (λ p q. subst (λ z. TypedNumber s v (Γ .ctx .types z)) (sym p)
           (subst (λ z. TypedNumber s z (Γ .ctx .types d)) (Option·some-injective n v q) typed))

@@ -5,6 +5,7 @@ use mathlib.Core.Bool.{Bool, true, false, _&&_}
 use mathlib.Core.List.{List, [], _∷_}
 use mathlib.Core.Option.{Option, none, some}
 use native.Mathlib.Omega.{arith}
+use mir.Facts.{and-yes}
 use lib.ListN.{getD}
 use lib.Dec.{T, ltb, ltb→lt}
 use lib.Ieee.Bits.{is-true}
@@ -15,7 +16,7 @@ use Rattle.record.specs.Record.{Bytes, Placed, Record, Function, function, plai
 use Rattle.record.specs.Reader.{Res, got, fault}
 use Rattle.record.specs.Typing.{accept}
 use Rattle.numbering.specs.Number.{lvn}
-use Rattle.machine.specs.Machine.{Answer, run}
+use Rattle.machine.specs.Machine.{Answer, Run, run}
 use Rattle.machine.specs.Reached.{is-set, read-no-unset}
 use Rattle.machine.specs.Examples.{store-of, function-of}
 use Rattle.pairing.proofs.Accepted.{accepted-fit}
@@ -24,14 +25,10 @@ use Rattle.pairing.specs.Demand.{Starts, Agree, RunAlike}
 use Rattle.pairing.specs.Premises.{accepted, are-bytes, value-fits, typed, first-set, same-value, all-same}
 
 -- ---- tests and facts
-pub both : (a b : Bool) → T (a && b) → T a × T b
-both true b t = (tt, t)
-both false b t = absurd t
-
 bytes-are : (s : List ℕ) → T (are-bytes s) → Bytes s
 unfolding are-bytes
 bytes-are [] t = tt
-bytes-are (b ∷ s) t = let (x, y) = both (ltb b 256) (are-bytes s) t in (ltb→lt b 256 x, bytes-are s y)
+bytes-are (b ∷ s) t = let (x, y) = and-yes (ltb b 256) (are-bytes s) t in (ltb→lt b 256 x, bytes-are s y)
 
 fits-value : (t : ℕ) (o : Option Val) → T (value-fits t o) → (v : Val) → o ≡ some v → HasType t v
 fits-value t none p v e = clash (cc)
@@ -41,19 +38,19 @@ typed-at : (ts : List ℕ) (vs : List (Option Val)) → T (typed ts vs) → (n :
 unfolding typed
 typed-at ts [] p n v e = clash (cc)
 typed-at [] (o ∷ vs) p n v e = absurd p
-typed-at (t ∷ ts) (o ∷ vs) p zero v e = fits-value t o (both (value-fits t o) (typed ts vs) p .0) v e
-typed-at (t ∷ ts) (o ∷ vs) p (suc n) v e = typed-at ts vs (both (value-fits t o) (typed ts vs) p .1) n v e
+typed-at (t ∷ ts) (o ∷ vs) p zero v e = fits-value t o (and-yes (value-fits t o) (typed ts vs) p .0) v e
+typed-at (t ∷ ts) (o ∷ vs) p (suc n) v e = typed-at ts vs (and-yes (value-fits t o) (typed ts vs) p .1) n v e
 
 set-at : (n : ℕ) (vs : List (Option Val)) → T (first-set n vs) → (x : ℕ) → x < n → (v : Val) × (getD vs x none ≡ some v)
 unfolding first-set is-set
 set-at zero vs t x l = absurd (let z : 0 < 0 = omega arith in omega arith)
 set-at (suc n) [] t x l = absurd t
-set-at (suc n) (o ∷ vs) t zero l = held o (both (is-set o) (first-set n vs) t .0)
+set-at (suc n) (o ∷ vs) t zero l = held o (and-yes (is-set o) (first-set n vs) t .0)
   where
     held : (o : Option Val) → T (is-set o) → (v : Val) × (o ≡ some v)
     held none p = absurd p
     held (some v) p = (v, refl)
-set-at (suc n) (o ∷ vs) t (suc x) l = set-at n vs (both (is-set o) (first-set n vs) t .1) x (omega arith)
+set-at (suc n) (o ∷ vs) t (suc x) l = set-at n vs (and-yes (is-set o) (first-set n vs) t .1) x (omega arith)
 
 same-values : (o p : Option Val) → T (same-value o p) → p ≡ o
 same-values none none t = refl
@@ -70,8 +67,8 @@ unfolding all-same
 same-at zero vs ws t x l = absurd (let z : 0 < 0 = omega arith in omega arith)
 same-at (suc n) [] ws t x l = absurd t
 same-at (suc n) (o ∷ vs) [] t x l = absurd t
-same-at (suc n) (o ∷ vs) (p ∷ ws) t zero l = same-values o p (both (same-value o p) (all-same n vs ws) t .0)
-same-at (suc n) (o ∷ vs) (p ∷ ws) t (suc x) l = same-at n vs ws (both (same-value o p) (all-same n vs ws) t .1) x (omega arith)
+same-at (suc n) (o ∷ vs) (p ∷ ws) t zero l = same-values o p (and-yes (same-value o p) (all-same n vs ws) t .0)
+same-at (suc n) (o ∷ vs) (p ∷ ws) t (suc x) l = same-at n vs ws (and-yes (same-value o p) (all-same n vs ws) t .1) x (omega arith)
 
 -- ---- the premises from the tests
 pub starts-from :
@@ -99,32 +96,44 @@ record-alike s b a = go (accept limits s) refl a
     go (got r p) e t = demand3 (function (plain r)) (accepted-fit s (bytes-are s b) r p e)
     go (fault k o) e t = absurd t
 
--- the two runs over n blocks from the stores vs and ws, and that they are alike
-pub record Instance (s : List ℕ) (vs ws : List (Option Val)) (answers : List Answer) (n : ℕ) : Type 0 where
-  pub alike :
-      let f = function-of (accept limits s) in
-      Agree (names-of f) (lvn f .blocks) (run f (store-of vs) answers n) (run (lvn f) (store-of ws) answers n)
+-- a record, what the names of its function and of its rewriting hold at the start, the answers, and how many blocks are run
+pub record Case : Type 0 where
+  pub bytes : List ℕ
+  pub first : List (Option Val)
+  pub second : List (Option Val)
+  pub answers : List Answer
+  pub asked : ℕ
+
+abbrev pub function-in : Case → Function
+function-in c = function-of (accept limits (c .bytes))
+
+abbrev pub first-run : Case → Run
+first-run c = run (function-in c) (store-of (c .first)) (c .answers) (c .asked)
+
+abbrev pub second-run : Case → Run
+second-run c = run (lvn (function-in c)) (store-of (c .second)) (c .answers) (c .asked)
+
+-- the two runs are alike
+pub record Instance (c : Case) : Type 0 where
+  pub alike : let f = function-in c in Agree (names-of f) (lvn f .blocks) (first-run c) (second-run c)
 
 -- every premise of demand 3 in one test
-abbrev pub meets : List ℕ → List (Option Val) → List (Option Val) → List Answer → ℕ → Bool
-meets s vs ws answers n =
-    let f = function-of (accept limits s) in
-    are-bytes s && (accepted (accept limits s) && (typed (f .types) vs && (first-set (f .args) vs &&
-    (all-same (names-of f) vs ws && read-no-unset f (store-of vs) answers n))))
+abbrev pub meets : Case → Bool
+meets c =
+    let f = function-in c in
+    are-bytes (c .bytes) && (accepted (accept limits (c .bytes)) && (typed (f .types) (c .first) && (first-set (f .args) (c .first) &&
+    (all-same (names-of f) (c .first) (c .second) && read-no-unset f (store-of (c .first)) (c .answers) (c .asked)))))
 
-pub instance :
-    (s : List ℕ) (vs ws : List (Option Val)) (answers : List Answer) (n : ℕ) →
-    T (meets s vs ws answers n) →
-    Instance s vs ws answers n
-instance s vs ws answers n t =
-    let f = function-of (accept limits s) in
-    let (b, t₁) = both (are-bytes s) _ t in
-    let (a, t₂) = both (accepted (accept limits s)) _ t₁ in
-    let (ty, t₃) = both (typed (f .types) vs) _ t₂ in
-    let (st, t₄) = both (first-set (f .args) vs) _ t₃ in
-    let (sa, q) = both (all-same (names-of f) vs ws) _ t₄ in
+pub instance : (c : Case) → T (meets c) → Instance c
+instance c t =
+    let f = function-in c in
+    let (b, t₁) = and-yes (are-bytes (c .bytes)) _ t in
+    let (a, t₂) = and-yes (accepted (accept limits (c .bytes))) _ t₁ in
+    let (ty, t₃) = and-yes (typed (f .types) (c .first)) _ t₂ in
+    let (st, t₄) = and-yes (first-set (f .args) (c .first)) _ t₃ in
+    let (sa, q) = and-yes (all-same (names-of f) (c .first) (c .second)) _ t₄ in
     record {
       alike =
-          record-alike s b a (store-of vs) (store-of ws) (starts-from f vs ws ty st sa) answers n
-          (is-true (read-no-unset f (store-of vs) answers n) q);
+          record-alike (c .bytes) b a (store-of (c .first)) (store-of (c .second)) (starts-from f (c .first) (c .second) ty st sa)
+          (c .answers) (c .asked) (is-true (read-no-unset f (store-of (c .first)) (c .answers) (c .asked)) q);
     }

@@ -1,3 +1,4 @@
+pub mod Fit
 pub mod Typing
 pub mod Simplify
 pub mod Valuation

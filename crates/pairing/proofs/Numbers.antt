@@ -17,7 +17,8 @@ use Rattle.numbering.specs.declared.ValNum.{ValNum}
 use Rattle.numbering.specs.State.{vn, ValNum-discrete, State, number-of, home-of, known}
 use Rattle.numbering.specs.Number.{operands, same-expr, find, get-val-num}
 use Rattle.pairing.specs.Joint.{Setting, Has, by-id, by-value, number, number-all, Typed, Elem, first, later}
-use Rattle.pairing.specs.Fit.{All}
+use Rattle.pairing.specs.Demand.{All}
+use Rattle.pairing.proofs.Valuation.{all-elem}
 use Rattle.pairing.proofs.Simplify.{known-expr-is}
 use Rattle.pairing.proofs.SimplifyTypes.{TypedBy, KnownBy}
 use Rattle.pairing.proofs.Homes.{TypedNumber, Housed, Seen}
@@ -27,10 +28,6 @@ use Rattle.pairing.proofs.Written.{over}
 -- each of these names has a number that is given
 abbrev pub Given : Setting → State → List NameIx → Type 0
 Given Γ s xs = (x : NameIx) → Elem x xs → (n : ValNum) × (s .env x ≡ some n) × TypedNumber s n (Γ .ctx .types x)
-
-all-elem : (P : NameIx → Type 0) (xs : List NameIx) → All P xs → (x : NameIx) → Elem x xs → P x
-all-elem P xs h x (first {xs = ys}) = h .0
-all-elem P xs h x (later {xs = ys} e) = all-elem P ys (h .1) x e
 
 pub seen-given :
     (Γ : Setting) (s : State) (env₂ : NameIx → Option ValNum) (xs : List NameIx) →

@@ -17,7 +17,7 @@ use Rattle.numbering.specs.Number.{operands}
 use Rattle.machine.specs.Machine.{Store, read-cons, read-all}
 use Rattle.machine.specs.Reached.{is-set, all-set}
 use Rattle.pairing.specs.Joint.{Takes, Typed}
-use Rattle.pairing.specs.Fit.{All}
+use Rattle.pairing.specs.Demand.{All}
 use Rattle.pairing.proofs.Typing.{type-is}
 
 -- a value, or a division that stops

@@ -15,7 +15,7 @@ use Rattle.machine.specs.Machine.{Store, Context, plain-machine, Answer, Stop, 
 use Rattle.machine.specs.Reached.{Reached, onward, reached-in, reached-of, reached-from, reached-with, reached, all-set, none-unset, read-no-unset}
 use Rattle.pairing.specs.Joint.{Performed}
 use Rattle.pairing.specs.Demand.{stop, shown, body-of, TypedStore}
-use Rattle.pairing.specs.Fit.{FitBody, FitFunction}
+use Rattle.pairing.proofs.Fit.{FitBody, FitFunction}
 use Rattle.pairing.specs.Progress.{ReadsUnset, Progress, not-unset, quiet}
 use Rattle.pairing.proofs.Operands.{TypedIn}
 use Rattle.pairing.proofs.Stores.{Does, goes-on, jumps-to, stops-set, stops-unset, step-does}

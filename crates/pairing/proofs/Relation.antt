@@ -3,13 +3,14 @@
 use Prim.Native.Nat.{ℕ, suc, _≤_, _<_}
 use mathlib.Core.Path.{_≡_, refl, sym, ap, _∙_, subst}
 use mathlib.Core.Logic.{_≢_}
-use mathlib.Core.Bool.{Bool, true, false, _&&_, cond}
+use mathlib.Core.Bool.{Bool, true, false, cond}
 use mathlib.Core.Option.{Option, none, some, Option·none-ne-some, Option·some-injective}
 use native.Mathlib.Omega.{arith}
+use lib.Ieee.Fits.{and-r}
 use lib.Dec.{T, eqb, ltb}
 use borrow.Author.Tests.{ltb-true, lt-ltb, le-ltb}
 use Rattle.arith.specs.Map.{upd}
-use Rattle.arith.proofs.Map.{upd-same, upd-other, upd-ind}
+use Rattle.arith.proofs.Map.{upd-same, upd-other, upd-alike, upd-ind}
 use Rattle.arith.specs.Value.{Val, typeOf, inRange, HasType}
 use Rattle.arith.specs.Operation.{ok, Expr, eval}
 use Rattle.record.specs.declared.NameIx.{NameIx}
@@ -18,6 +19,7 @@ use Rattle.numbering.specs.declared.ValNum.{ValNum}
 use Rattle.numbering.specs.State.{vn, ValNum-discrete, start-env}
 use Rattle.machine.specs.Machine.{Store}
 use Rattle.pairing.specs.Joint.{Setting, Joint, push, set-both, set-second, fresh, Numbers, old, fresh-value, Fits, InRange, start-joint}
+use Rattle.pairing.proofs.Stores.{assign-typed}
 use Rattle.pairing.proofs.Valuation.{Valuation, ok-not-unset, Grows, eval-grows, Located, Locates, locates-grows, has-value}
 
 -- ---- the relations
@@ -37,11 +39,14 @@ pub record Related (Γ : Setting) (j : Joint) (ρ : Valuation) (σ₁ σ₂ : St
   pub base : StartsIn Γ σ₁ σ₂
 
 pub typed-ranged : (t : ℕ) (v : Val) → HasType t v → T (inRange v)
-typed-ranged t v h = right (eqb (typeOf v) t) (inRange v) h
-  where
-    right : (a b : Bool) → T (a && b) → T b
-    right true b h = h
-    right false b h = absurd h
+typed-ranged t v h = and-r (eqb (typeOf v) t) (inRange v) h
+
+-- the number n has the value v, under a valuation that knows more
+pub record Valued (Γ : Setting) (j : Joint) (ρ : Valuation) (σ₁ σ₂ : Store) (n : ValNum) (v : Val) : Type 0 where
+  pub ρ′ : Valuation
+  pub grows : Grows ρ ρ′
+  pub related : Related Γ j ρ′ σ₁ σ₂
+  pub valued : ρ′ n ≡ some v
 
 -- ---- a number more
 other-number : (n : ValNum) (k : ℕ) → suc k ≤ n .0 → n ≢ vn k
@@ -49,26 +54,26 @@ other-number n k h p =
     let q : n .0 ≡ k = ap (λ (m : ValNum). m .0) p in
     omega arith
 
-pub upd-grows : (ρ : Valuation) (k : ValNum) (v : Val) → ρ k ≡ none → Grows ρ (upd ValNum-discrete ρ k (some v))
+upd-grows : (ρ : Valuation) (k : ValNum) (v : Val) → ρ k ≡ none → Grows ρ (upd ValNum-discrete ρ k (some v))
 upd-grows ρ k v h n x p =
     upd-ind ValNum-discrete ρ k (some v) n (λ o. o ≡ some x) (λ q. absurd (Option·none-ne-some x (sym h ∙ ap ρ (sym q) ∙ p))) (λ q. p)
 
 module _ (Γ : Setting) (j : Joint) (ρ : Valuation) (σ₁ σ₂ : Store) (R : Related Γ j ρ σ₁ σ₂) where
   -- the next number takes the value v
-  abbrev pub with-next : Val → Valuation
+  abbrev with-next : Val → Valuation
   with-next v = upd ValNum-discrete ρ (vn (j .next)) (some v)
 
-  pub next-unused : ρ (vn (j .next)) ≡ none
+  next-unused : ρ (vn (j .next)) ≡ none
   next-unused = R .unused (vn (j .next)) (omega arith)
 
-  pub next-grows : (v : Val) → Grows ρ (with-next v)
+  next-grows : (v : Val) → Grows ρ (with-next v)
   next-grows v = upd-grows ρ (vn (j .next)) v next-unused
 
-  pub next-valued : (v : Val) → with-next v (vn (j .next)) ≡ some v
+  next-valued : (v : Val) → with-next v (vn (j .next)) ≡ some v
   next-valued v = upd-same ValNum-discrete ρ (vn (j .next)) (some v) (vn (j .next)) refl
 
   -- with its value expression, if it has one
-  pub push-related :
+  push-related :
       (v : Val) (e : Option (Expr ValNum)) →
       T (inRange v) →
       ((w : Expr ValNum) → e ≡ some w → eval ρ w ≡ ok v) →
@@ -94,17 +99,19 @@ module _ (Γ : Setting) (j : Joint) (ρ : Valuation) (σ₁ σ₂ : Store) (R : 
         base = R .base;
       }
 
-  -- a number that is new each time
-  pub new-related : (v : Val) → T (inRange v) → Related Γ (push j none) (with-next v) σ₁ σ₂
-  new-related v h = push-related v none h (λ w p. absurd (Option·none-ne-some w p))
+  pub push-valued :
+      (v : Val) (e : Option (Expr ValNum)) →
+      T (inRange v) →
+      ((w : Expr ValNum) → e ≡ some w → eval ρ w ≡ ok v) →
+      Valued Γ (push j e) ρ σ₁ σ₂ (vn (j .next)) v
+  push-valued v e h f =
+      record { ρ′ = with-next v; grows = next-grows v; related = push-related v e h f; valued = next-valued v }
+
+  -- a value that is new each time takes the next number
+  pub new-valued : (v : Val) → T (inRange v) → Valued Γ (push j none) ρ σ₁ σ₂ (vn (j .next)) v
+  new-valued v h = push-valued v none h (λ w p. absurd (Option·none-ne-some w p))
 
 -- ---- a value expression is numbered
-pub record Valued (Γ : Setting) (j : Joint) (ρ : Valuation) (σ₁ σ₂ : Store) (n : ValNum) (v : Val) : Type 0 where
-  pub ρ′ : Valuation
-  pub grows : Grows ρ ρ′
-  pub related : Related Γ j ρ′ σ₁ σ₂
-  pub valued : ρ′ n ≡ some v
-
 pub numbers-valued :
     (Γ : Setting) (j j′ : Joint) (ρ : Valuation) (σ₁ σ₂ : Store) (w : Expr ValNum) (n : ValNum) (v : Val) →
     Numbers j w n j′ →
@@ -119,28 +126,8 @@ numbers-valued Γ j j′ ρ σ₁ σ₂ w n v (old h) p r R =
     same : (x : Val) → ok x ≡ ok v → ρ n ≡ some x → ρ n ≡ some v
     same x e f = cc
 numbers-valued Γ j j′ ρ σ₁ σ₂ w n v fresh-value p r R =
-    record {
-      ρ′ = with-next Γ j ρ σ₁ σ₂ R v;
-      grows = next-grows Γ j ρ σ₁ σ₂ R v;
-      related =
-          push-related Γ j ρ σ₁ σ₂ R v (some w) r
-          (λ u q. subst (λ (z : Expr ValNum). eval ρ z ≡ ok v) (Option·some-injective w u q) p);
-      valued = next-valued Γ j ρ σ₁ σ₂ R v;
-    }
-
--- a value that is new each time takes the next number
-pub new-valued :
-    (Γ : Setting) (j : Joint) (ρ : Valuation) (σ₁ σ₂ : Store) (v : Val) →
-    T (inRange v) →
-    Related Γ j ρ σ₁ σ₂ →
-    Valued Γ (push j none) ρ σ₁ σ₂ (vn (j .next)) v
-new-valued Γ j ρ σ₁ σ₂ v h R =
-    record {
-      ρ′ = with-next Γ j ρ σ₁ σ₂ R v;
-      grows = next-grows Γ j ρ σ₁ σ₂ R v;
-      related = new-related Γ j ρ σ₁ σ₂ R v h;
-      valued = next-valued Γ j ρ σ₁ σ₂ R v;
-    }
+    push-valued Γ j ρ σ₁ σ₂ R v (some w) r
+    (λ u q. subst (λ (z : Expr ValNum). eval ρ z ≡ ok v) (Option·some-injective w u q) p)
 
 -- ---- a name takes a number
 -- d takes the number n, whose value the store σ′ holds there; elsewhere it is σ
@@ -189,18 +176,11 @@ starts-store :
     StartsIn Γ (store σ₁ d v) (store σ₂ d v)
 starts-store Γ σ₁ σ₂ d v h s =
     record {
-      typed =
-          λ x l w.
-          upd-ind NameIx-discrete σ₁ d (some v) x (λ o. o ≡ some w → HasType (Γ .ctx .types x) w)
-          (λ e p. rw e (subst (λ (z : Val). HasType (Γ .ctx .types d) z) (Option·some-injective v w p) h))
-          (λ e p. s .typed x l w p);
+      typed = assign-typed (Γ .names) (Γ .ctx) σ₁ d v (s .typed) h;
       set =
           λ x l.
           upd-ind NameIx-discrete σ₁ d (some v) x (λ o. (w : Val) × (o ≡ some w)) (λ e. (v, refl)) (λ e. s .set x l);
-      same =
-          λ x l.
-          upd-ind NameIx-discrete σ₁ d (some v) x (λ o. store σ₂ d v x ≡ o) (λ e. upd-same NameIx-discrete σ₂ d (some v) x e)
-          (λ e. upd-other NameIx-discrete σ₂ d (some v) x e ∙ s .same x l);
+      same = λ x l. upd-alike NameIx-discrete σ₁ σ₂ d (some v) x (s .same x l);
     }
 
 module _ (Γ : Setting) (j : Joint) (ρ : Valuation) (σ₁ σ₂ : Store) (R : Related Γ j ρ σ₁ σ₂) where
@@ -248,20 +228,26 @@ module _ (Γ : Setting) (j : Joint) (ρ : Valuation) (σ₁ σ₂ : Store) (R : 
           omega arith
 
   -- an original name that holds a value is seen
-  pub seen-related :
-      (x : NameIx) (v : Val) → x .0 < Γ .names → σ₁ x ≡ some v → Related Γ (fresh j x) (with-next Γ j ρ σ₁ σ₂ R v) σ₁ σ₂
-  seen-related x v l p =
+  pub seen-valued : (x : NameIx) (v : Val) → x .0 < Γ .names → σ₁ x ≡ some v → Valued Γ (fresh j x) ρ σ₁ σ₂ (vn (j .next)) v
+  seen-valued x v l p =
       let h : HasType (Γ .ctx .types x) v = R .base .typed x l v p in
-      let S = new-related Γ j ρ σ₁ σ₂ R v (typed-ranged (Γ .ctx .types x) v h) in
-      let q = next-valued Γ j ρ σ₁ σ₂ R v in
+      let u = new-valued Γ j ρ σ₁ σ₂ R v (typed-ranged (Γ .ctx .types x) v h) in
+      let S = u .related in
+      let next = vn (j .next) in
       record {
-        unused = S .unused;
-        ranged = S .ranged;
-        fits = S .fits;
-        first = locates-at (Γ .ctx .types) (j .env₁) σ₁ σ₁ _ x (vn (j .next)) v q h p (λ y e. refl) (S .first);
-        second =
-            locates-at (Γ .ctx .types) (j .env₂) σ₂ σ₂ _ x (vn (j .next)) v q h (R .base .same x l ∙ p) (λ y e. refl) (S .second);
-        base = R .base;
+        ρ′ = u .ρ′;
+        grows = u .grows;
+        related =
+            record {
+              unused = S .unused;
+              ranged = S .ranged;
+              fits = S .fits;
+              first = locates-at (Γ .ctx .types) (j .env₁) σ₁ σ₁ (u .ρ′) x next v (u .valued) h p (λ y e. refl) (S .first);
+              second =
+                  locates-at (Γ .ctx .types) (j .env₂) σ₂ σ₂ (u .ρ′) x next v (u .valued) h (R .base .same x l ∙ p) (λ y e. refl) (S .second);
+              base = R .base;
+            };
+        valued = u .valued;
       }
 
 -- ---- the start of a block

@@ -9,7 +9,7 @@ use native.Mathlib.Omega.{arith}
 use lib.ListN.{take}
 use Rattle.record.specs.Record.{Instr, Block}
 use Rattle.numbering.specs.Number.{count-saves}
-use Rattle.machine.specs.Machine.{Store, Answer, Stop, at-end, at-unset, Mach, Out, run-block, before, stopped, Run, nth, arrived, arrive, passes, through, advance-from, advance, begin, iterate, run-with}
+use Rattle.machine.specs.Machine.{Store, Answer, Stop, at-end, at-unset, Mach, Out, run-block, Place, before, stopped, Run, nth, arrived, arrive, passes, through, advance-from, advance, begin, iterate, run-with}
 use Rattle.pairing.specs.Joint.{Setting, Paired, start-joint, PairedBlocks, no-blocks, block-pair}
 use Rattle.pairing.specs.Demand.{stop, shown, saves-field, saves-passed, saves-before, Agree}
 use Rattle.pairing.proofs.Relation.{StartsIn, start-valuation, start-related}
@@ -150,30 +150,29 @@ module _ (Γ : Setting) (bs cs : List (Block Instr)) (few : Γ .args ≤ Γ .nam
       starting σ xs = record { store = σ; answers = xs; events = []; steps = 0 }
 
 -- ---- what that shows
+alike-agree :
+    (Γ : Setting) (cs : List (Block Instr)) {p q : Place} {l : List ℕ} {m₁ m₂ : Mach} →
+    shown q ≡ shown p →
+    Alike Γ (saves-passed cs l + saves-before (Γ .names) cs q) m₁ m₂ →
+    Agree (Γ .names) cs (record { place = p; passed = l; mach = m₁ }) (record { place = q; passed = l; mach = m₂ })
+alike-agree Γ cs e a =
+    record {
+      events = a .ahead .events;
+      values = a .stores .same;
+      place = e;
+      answers = a .ahead .answers;
+      passed = refl;
+      steps = a .ahead .steps;
+    }
+
 reached-agree :
     (Γ : Setting) (cs : List (Block Instr)) (r₁ r₂ : Run) →
     Reached Γ cs r₁ r₂ →
     shown (r₁ .place) ≢ stop at-unset →
     Agree (Γ .names) cs r₁ r₂
 unfolding shown saves-before
-reached-agree Γ cs r₁ r₂ (both-before a) h =
-    record {
-      events = a .ahead .events;
-      values = a .stores .same;
-      place = refl;
-      answers = a .ahead .answers;
-      passed = refl;
-      steps = omega (arith, a .ahead .steps);
-    }
-reached-agree Γ cs r₁ r₂ (both-stopped a) h =
-    record {
-      events = a .ahead .events;
-      values = a .stores .same;
-      place = refl;
-      answers = a .ahead .answers;
-      passed = refl;
-      steps = a .ahead .steps;
-    }
+reached-agree Γ cs r₁ r₂ (both-before a) h = alike-agree Γ cs refl (alike-by (omega arith) a)
+reached-agree Γ cs r₁ r₂ (both-stopped a) h = alike-agree Γ cs refl a
 reached-agree Γ cs r₁ r₂ stopped-unset h = absurd (h refl)
 
 pub runs-alike :

@@ -5,6 +5,7 @@ use mathlib.Core.Path.{_≡_, refl, sym, ap, _∙_}
 use mathlib.Core.Logic.{_≢_}
 use mathlib.Core.Bool.{Bool, true, false, cond, Bool·beq, _&&_, _||_, and-comm, and-false, and-true, or-comm, or-true, or-false}
 use mathlib.Core.Option.{Option, none, some, Option·getD}
+use lib.Ieee.Fits.{and-r}
 use lib.Dec.{T, ltb, eqb, eqb→eq, ltb→lt}
 use borrow.Author.Tests.{eq-eqb}
 use Rattle.arith.specs.declared.One.{One}
@@ -161,12 +162,7 @@ module _ (ρ : ValNum → Option Val) (a : ValNum) (x : Option Val) where
 
   offset : (t b o : ℕ) → Operand ρ a x (pointer t b o) → o < W
   unfolding inRange
-  offset t b o A = ltb→lt o W (last (is-pointer t) (ltb b W) (ltb o W) (A .range))
-    where
-      last : (c d e : Bool) → T (c && (d && e)) → T e
-      last true true e h = h
-      last true false e h = absurd h
-      last false d e h = absurd h
+  offset t b o A = ltb→lt o W (and-r (ltb b W) (ltb o W) (and-r (is-pointer t) (ltb b W && ltb o W) (A .range)))
 
   id-gives : (u : Val) → Operand ρ a x u → eval ρ (id-of a) ≡ ok u
   unfolding eval with-one apply1

@@ -2,7 +2,7 @@
 -- numbering (which numbers there are, what their constants are) is kept by the same law.
 use Prim.Native.Nat.{ℕ, _<_}
 use mathlib.Core.Path.{_≡_, refl, sym, _∙_, subst}
-use mathlib.Core.Bool.{Bool, true, false, not, _&&_, _||_, cond}
+use mathlib.Core.Bool.{Bool, true, false, cond}
 use mathlib.Core.Option.{Option, none, some, Option·getD}
 use native.Mathlib.Omega.{arith}
 use lib.Dec.{T, ltb, eqb, lt→ltb}
@@ -10,14 +10,14 @@ use Rattle.arith.specs.declared.One.{One}
 use Rattle.arith.specs.declared.One.the-variants.{Not, Id}
 use Rattle.arith.specs.declared.Two.{Two}
 use Rattle.arith.specs.declared.Two.the-variants.{Add, Sub, Mul, Div, Eq, Lt, Gt, Le, Ge, And, Or, PtrAdd}
-use Rattle.arith.specs.Word.{W, addW, subW, mulW, divW, ltW, leW, least, minus-one}
-use Rattle.arith.specs.Value.{tint, tbool, Val, int, float, literal, char, bool, pointer, typeOf, inRange, HasType}
-use Rattle.arith.specs.Operation.{by-zero, overflow, Result, ok, stops, asInt, asBool, with-both, with-one, divide, shift, apply1, apply2, Expr, constant, one, two}
-use Rattle.arith.proofs.Words.{addW-word, subW-word, mulW-word, divW-word}
+use Rattle.arith.specs.Word.{W}
+use Rattle.arith.specs.Value.{tint, tbool, Val, int, bool, typeOf, inRange, HasType}
+use Rattle.arith.specs.Operation.{Result, ok, stops, unset, apply1, apply2, Expr, constant, one, two}
 use Rattle.numbering.specs.declared.ValNum.{ValNum}
 use Rattle.numbering.specs.Number.{numbered}
 use Rattle.numbering.specs.Simplify.{folded, fold1, fold2, is-int, is-bool, gives, absorbs, identity, sorted, ordered, first, simplify1, simplify2, simplify}
 use Rattle.pairing.specs.Joint.{Takes}
+use Rattle.pairing.proofs.Typing.{Yields, Kept, not-keeps, apply2-keeps}
 
 -- a constant of type d that a value expression may be
 abbrev pub Constant : ℕ → Val → Type 0
@@ -43,6 +43,16 @@ pub bool-constant : (d : ℕ) (b : Bool) → d ≡ tbool → Constant d (bool b)
 unfolding typeOf inRange numbered
 bool-constant d b e = subst (λ z. Constant z (bool b)) (sym e) (tt, tt)
 
+-- no pointer is known
+constants-kept : Kept Constant
+unfolding numbered
+constants-kept =
+    record {
+      of-int = λ w h. int-constant tint w refl h;
+      of-bool = λ b. bool-constant tbool b refl;
+      of-pointer = λ s t b o k l h. absurd (h .1);
+    }
+
 module _ (P : ValNum → ℕ → Type 0) where
   -- an expression of type d, where there is one
   abbrev Fine : ℕ → Option (Expr ValNum) → Type 0
@@ -62,62 +72,20 @@ module _ (P : ValNum → ℕ → Type 0) where
   fine-getD d (some e′) e h k = h
 
   -- ---- folds
-  fine-both :
-      {A B : Type 0} (d : ℕ) (x : Option A) (y : Option B) (f : A → B → Result) →
-      ((a : A) (b : B) → Fine d (folded (f a b))) →
-      Fine d (folded (with-both x y f))
-  unfolding with-both folded
-  fine-both d none y f h = tt
-  fine-both d (some x) none f h = tt
-  fine-both d (some x) (some y) f h = h x y
-
-  fine-one : {A : Type 0} (d : ℕ) (x : Option A) (f : A → Result) → ((a : A) → Fine d (folded (f a))) → Fine d (folded (with-one x f))
-  unfolding with-one folded
-  fine-one d none f h = tt
-  fine-one d (some x) f h = h x
-
-  divide-fine : (d a b : ℕ) → d ≡ tint → Fine d (folded (divide a b))
-  unfolding divide folded
-  divide-fine d a b e = go (eqb b 0) (eqb a least && eqb b minus-one)
-    where
-      go : (p q : Bool) → Fine d (folded (cond p (stops by-zero) (cond q (stops overflow) (ok (int (divW a b))))))
-      go true q = tt
-      go false true = tt
-      go false false = int-constant d (divW a b) e (divW-word a b)
-
-  -- no pointer is known
-  shift-fine : (d r k : ℕ) (x : Val) → Constant r x → Fine d (folded (shift x k))
-  unfolding shift folded numbered
-  shift-fine d r k (int w) h = tt
-  shift-fine d r k (float b) h = tt
-  shift-fine d r k (literal w) h = tt
-  shift-fine d r k (char c) h = tt
-  shift-fine d r k (bool b) h = tt
-  shift-fine d r k (pointer t b o) h = absurd (h .1)
+  folded-fine : (d : ℕ) (r : Result) → Yields (Constant d) r → Fine d (folded r)
+  unfolding folded
+  folded-fine d (ok v) h = h
+  folded-fine d (stops c) h = tt
+  folded-fine d unset h = tt
 
   apply1-fine :
       (o : One) (a : ValNum) (d : ℕ) (x : Val) →
       TypedBy P (one o a) d →
       ((t : ℕ) → P a t → Constant t x) →
-      Fine d (folded (apply1 o x))
-  unfolding apply1 folded
-  apply1-fine Not a d x h k = fine-one d (asBool x) (λ c. ok (bool (not c))) (λ c. bool-constant d (not c) (h .1))
+      Yields (Constant d) (apply1 o x)
+  unfolding apply1
+  apply1-fine Not a d x h k = not-keeps Constant constants-kept d x (h .1)
   apply1-fine Id a d x h k = k d h
-
-  apply2-fine : (o : Two) (r s d : ℕ) (x y : Val) → Takes o r s d → Constant r x → Fine d (folded (apply2 o x y))
-  unfolding apply2 folded
-  apply2-fine Add r s d x y h k = fine-both d (asInt x) (asInt y) _ (λ a b. int-constant d (addW a b) (h .2) (addW-word a b))
-  apply2-fine Sub r s d x y h k = fine-both d (asInt x) (asInt y) _ (λ a b. int-constant d (subW a b) (h .2) (subW-word a b))
-  apply2-fine Mul r s d x y h k = fine-both d (asInt x) (asInt y) _ (λ a b. int-constant d (mulW a b) (h .2) (mulW-word a b))
-  apply2-fine Div r s d x y h k = fine-both d (asInt x) (asInt y) _ (λ a b. divide-fine d a b (h .2))
-  apply2-fine Eq r s d x y h k = fine-both d (asInt x) (asInt y) _ (λ a b. bool-constant d (eqb a b) (h .2))
-  apply2-fine Lt r s d x y h k = fine-both d (asInt x) (asInt y) _ (λ a b. bool-constant d (ltW a b) (h .2))
-  apply2-fine Gt r s d x y h k = fine-both d (asInt x) (asInt y) _ (λ a b. bool-constant d (ltW b a) (h .2))
-  apply2-fine Le r s d x y h k = fine-both d (asInt x) (asInt y) _ (λ a b. bool-constant d (leW a b) (h .2))
-  apply2-fine Ge r s d x y h k = fine-both d (asInt x) (asInt y) _ (λ a b. bool-constant d (leW b a) (h .2))
-  apply2-fine And r s d x y h k = fine-both d (asBool x) (asBool y) _ (λ a b. bool-constant d (a && b) (h .2))
-  apply2-fine Or r s d x y h k = fine-both d (asBool x) (asBool y) _ (λ a b. bool-constant d (a || b) (h .2))
-  apply2-fine PtrAdd r s d x y h k = fine-one d (asInt y) (shift x) (λ c. shift-fine d r c x k)
 
   fold1-fine :
       (o : One) (a : ValNum) (d : ℕ) (x : Option Val) → TypedBy P (one o a) d →
@@ -125,14 +93,14 @@ module _ (P : ValNum → ℕ → Type 0) where
       Fine d (fold1 o x)
   unfolding fold1
   fold1-fine o a d none h k = tt
-  fold1-fine o a d (some x) h k = apply1-fine o a d x h (λ t p. k t x p refl)
+  fold1-fine o a d (some x) h k = folded-fine d (apply1 o x) (apply1-fine o a d x h (λ t p. k t x p refl))
 
   fold2-fine :
       (o : Two) (r s d : ℕ) (x y : Option Val) → Takes o r s d → ((c : Val) → x ≡ some c → Constant r c) → Fine d (fold2 o x y)
   unfolding fold2
   fold2-fine o r s d none y h k = tt
   fold2-fine o r s d (some x) none h k = tt
-  fold2-fine o r s d (some x) (some y) h k = apply2-fine o r s d x y h (k x refl)
+  fold2-fine o r s d (some x) (some y) h k = folded-fine d (apply2 o x y) (apply2-keeps Constant constants-kept o x y r s d h (k x refl))
 
   -- ---- identities
   absorbs-fine :

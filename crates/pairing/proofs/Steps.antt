@@ -102,7 +102,7 @@ module _
         Stepped Γ (fresh j (i .dest)) e ks (goes (assign m₁ (i .dest) v)) (goes (assign m₂ (k .dest) v))
     new-stepped v h =
         valued-stepped Γ (push j none) ρ e ks m₁ m₂ (i .dest) (k .dest) (vn (j .next)) v (s .dest) h
-        (new-valued Γ j ρ (m₁ .store) (m₂ .store) v (typed-ranged (Γ .ctx .types (i .dest)) v h) R) a
+        (new-valued Γ j ρ (m₁ .store) (m₂ .store) R v (typed-ranged (Γ .ctx .types (i .dest)) v h)) a
 
     take-value-stepped :
         (b : Bool) (v : Val) →
@@ -251,7 +251,7 @@ module _
     step-constant ks v p q s h =
         step-forms ks (fresh j (i .dest)) (pure (constant v)) (pure (constant v)) p q
         (finish-stepped Γ (push j none) ρ e i k ks (tick m₁) (tick m₂) (vn (j .next)) (ok v) (ok v) s (R .base) (tick-ahead a)
-        (one-value h (new-valued Γ j ρ (m₁ .store) (m₂ .store) v (typed-ranged (Γ .ctx .types (i .dest)) v h) R)))
+        (one-value h (new-valued Γ j ρ (m₁ .store) (m₂ .store) R v (typed-ranged (Γ .ctx .types (i .dest)) v h))))
 
     pub step-new :
         (ks : List Instr) (xs ys : List NameIx) (ns : List ValNum) →

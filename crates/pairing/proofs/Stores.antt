@@ -1,11 +1,12 @@
 -- A step of an instruction that fits, from a typed store: it leaves the store typed, and it stops as unset exactly where an argument
 -- of the instruction holds nothing. Rests on what operations answer.
 use Prim.Native.Nat.{ℕ, _<_}
-use mathlib.Core.Path.{_≡_, refl, sym, subst}
+use mathlib.Core.Path.{_≡_, refl, subst}
 use mathlib.Core.Bool.{Bool, true, false, _&&_}
 use mathlib.Core.List.{List, [], _∷_}
-use mathlib.Core.Option.{Option, none, some}
-use Rattle.arith.specs.Map.{pick, upd}
+use mathlib.Core.Option.{Option, none, some, Option·some-injective}
+use Rattle.arith.specs.Map.{upd}
+use Rattle.arith.proofs.Map.{upd-ind}
 use Rattle.arith.specs.Value.{tbool, Val, has-type, HasType}
 use Rattle.arith.specs.Operation.{Result, ok, stops, unset, Expr, eval}
 use Rattle.record.specs.declared.NameIx.{NameIx}
@@ -14,10 +15,12 @@ use Rattle.record.specs.Form.{Form, pure, new, effect, return, nop, jump, branc
 use Rattle.numbering.specs.Number.{operands, reads}
 use Rattle.machine.specs.Machine.{Store, Context, Answer, value, go-on, halt, Event, Stop, at-unset, Mach, Step, goes, jumps, ends, tick, assign, happens, read-all, event-of, finish, take-value, answered, perform, ask, acknowledged, tell, leave, choose, bool-in, act, step}
 use Rattle.machine.specs.Reached.{is-set, all-set}
-use Rattle.pairing.specs.Joint.{Typed, Elem, first, later, Performed}
-use Rattle.pairing.specs.Fit.{All, FitInstr}
+use Rattle.pairing.specs.Joint.{Typed, Performed}
+use Rattle.pairing.proofs.Fit.{FitInstr}
 use Rattle.pairing.specs.Progress.{not-unset}
+use Rattle.pairing.specs.Demand.{All}
 use Rattle.pairing.proofs.Typing.{eval-typed}
+use Rattle.pairing.proofs.Valuation.{all-elem}
 use Rattle.pairing.proofs.Operands.{given, bool-held, TypedIn, eval-given, there, read-given}
 
 -- what a step does that finds the store σ and has the arguments xs
@@ -31,13 +34,10 @@ module _ (N : ℕ) (ctx : Context) where
   abbrev t : NameIx → ℕ
   t = ctx .types
 
-  assign-typed : (σ : Store) (d : NameIx) (v : Val) → TypedIn N t σ → HasType (t d) v → TypedIn N t (upd NameIx-discrete σ d (some v))
-  unfolding upd
-  assign-typed σ d v h k x l u e = go (NameIx-discrete x d) e
-    where
-      go : (q : Dec (x ≡ d)) → pick q (some v) (σ x) ≡ some u → HasType (t x) u
-      go (yes p) e = let z : v ≡ u = cc e in subst (λ (y : NameIx). HasType (t y) u) (sym p) (subst (HasType (t d)) z k)
-      go (no p) e = h x l u e
+  pub assign-typed : (σ : Store) (d : NameIx) (v : Val) → TypedIn N t σ → HasType (t d) v → TypedIn N t (upd NameIx-discrete σ d (some v))
+  assign-typed σ d v h k x l u =
+      upd-ind NameIx-discrete σ d (some v) x (λ o. o ≡ some u → HasType (t x) u)
+      (λ p e. rw p (subst (HasType (t d)) (Option·some-injective v u e) k)) (λ p e. h x l u e)
 
   -- i: the instruction; m: the machine that has counted the step; xs: the arguments
   module _ (i : Instr) (m : Mach) (xs : List NameIx) (h : TypedIn N t (m .store)) where
@@ -120,11 +120,7 @@ module _ (N : ℕ) (ctx : Context) where
   act-does i m (pure e) h l k p q =
       let typed = p e refl in
       finish-does i m (operands e) h (eval (m .store) e) (eval-given N t (m .store) h e (t (i .dest)) typed l)
-      (λ v r. eval-typed t (m .store) e (t (i .dest)) typed (λ x u s w. h x (below x (operands e) l w) u s) v r)
-    where
-      below : (x : NameIx) (xs : List NameIx) → All (λ y. y .0 < N) xs → Elem x xs → x .0 < N
-      below x xs l first = l .0
-      below x xs l (later {xs = ys} w) = below x ys (l .1) w
+      (λ v r. eval-typed t (m .store) e (t (i .dest)) typed (λ x u s w. h x (all-elem (λ y. y .0 < N) (operands e) l x w) u s) v r)
   act-does i m (new xs) h l k p q = ask-does i m xs h k (read-all (m .store) xs) (read-given (m .store) xs)
   act-does i m (effect xs) h l k p q = tell-does i m xs h (read-all (m .store) xs) (read-given (m .store) xs)
   act-does i m (return xs) h l k p q = leave-does i m xs h (read-all (m .store) xs) (read-given (m .store) xs)

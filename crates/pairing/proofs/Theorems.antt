@@ -1,7 +1,7 @@
 -- Start here: what is proved of an accepted record and its rewriting, each theorem with its sentence.
 -- The statements are in specs/Demand.antt, and in numbering's specs/Ways.antt for demand 1; this file puts together what the other files
 -- prove. What rewrite's contract comes to is in Contract.antt.
-use Prim.Native.Nat.{ℕ, suc, _+_, _<_, _≤_}
+use Prim.Native.Nat.{ℕ, suc, _<_, _≤_}
 use mathlib.Core.Path.{_≡_, refl, sym, ap, _∙_, subst}
 use mathlib.Core.Logic.{_≢_, _↔_}
 use mathlib.Core.Bool.{true}
@@ -34,9 +34,8 @@ use Rattle.numbering.proofs.Differ.{texts-differ}
 use Rattle.numbering.proofs.Ways.{made-saves, three-ways, ends-alone}
 use Rattle.machine.specs.Machine.{Store, Answer, at-unset, run}
 use Rattle.machine.specs.Reached.{read-no-unset}
-use Rattle.pairing.specs.Demand.{shown, stop, Agree, TypedStore, Starts, RunAlike, SavesBounded}
+use Rattle.pairing.specs.Demand.{shown, stop, Agree, TypedStore, Starts, RunAlike, SavesBounded, All}
 use Rattle.pairing.specs.Contract.{Accepted}
-use Rattle.pairing.specs.Fit.{All}
 use Rattle.pairing.specs.Progress.{Progress}
 use Rattle.pairing.proofs.Accepted.{accepted-fit}
 use Rattle.pairing.proofs.Progress.{progress, read-then-quiet, quiet-then-read}

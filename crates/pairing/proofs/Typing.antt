@@ -3,6 +3,7 @@ use Prim.Native.Nat.{ℕ, _<_}
 use mathlib.Core.Path.{_≡_, refl, subst}
 use mathlib.Core.Bool.{Bool, true, false, not, cond, _&&_}
 use mathlib.Core.Option.{Option, none, some}
+use lib.Ieee.Fits.{and-l}
 use lib.Dec.{T, ltb, eqb, eqb→eq, lt→ltb}
 use Rattle.arith.specs.declared.One.the-variants.{Not, Id}
 use Rattle.arith.specs.declared.Two.{Two}
@@ -44,19 +45,7 @@ with-both-yields P (some a) (some b) f h = h a b refl refl
 
 -- ---- values of a type
 pub type-is : (d : ℕ) (v : Val) → HasType d v → typeOf v ≡ d
-type-is d v h = eqb→eq (typeOf v) d (left (eqb (typeOf v) d) (inRange v) h)
-  where
-    left : (a b : Bool) → T (a && b) → T a
-    left true b h = tt
-    left false b h = h
-
-int-typed : (w : ℕ) → w < W → HasType tint (int w)
-unfolding typeOf inRange
-int-typed w h = lt→ltb w W h
-
-bool-typed : (b : Bool) → HasType tbool (bool b)
-unfolding typeOf inRange
-bool-typed b = tt
+type-is d v h = eqb→eq (typeOf v) d (and-l (eqb (typeOf v) d) (inRange v) h)
 
 both : (a b c : Bool) → T (a && b) → (T b → T c) → T (a && c)
 both true b c h f = f h
@@ -70,49 +59,61 @@ moved s t b o k h p =
     (λ q. both (is-pointer t) (ltb b W && ltb o W) (ltb b W && ltb k W) q
     (λ r. both (ltb b W) (ltb o W) (ltb k W) r (λ _. lt→ltb k W h)))
 
--- ---- the operations
-divide-typed : (a b : ℕ) → Yields (HasType tint) (divide a b)
-unfolding divide
-divide-typed a b = go (eqb b 0) (eqb a least && eqb b minus-one)
-  where
-    go : (c d : Bool) → Yields (HasType tint) (cond c (stops by-zero) (cond d (stops overflow) (ok (int (divW a b)))))
-    go true d = tt
-    go false true = tt
-    go false false = int-typed (divW a b) (divW-word a b)
+-- ---- the operations keep Q, which is said of a type and a value, if it holds of all words and bools and of a pointer by its type and base
+pub record Kept (Q : ℕ → Val → Type 0) : Type 0 where
+  pub of-int : (w : ℕ) → w < W → Q tint (int w)
+  pub of-bool : (b : Bool) → Q tbool (bool b)
+  pub of-pointer : (s t b o k : ℕ) → k < W → Q s (pointer t b o) → Q s (pointer t b k)
 
-shift-typed : (s : ℕ) (x : Val) (k : ℕ) → HasType s x → Yields (HasType s) (shift x k)
-unfolding shift
-shift-typed s (int w) k h = tt
-shift-typed s (float b) k h = tt
-shift-typed s (literal w) k h = tt
-shift-typed s (char c) k h = tt
-shift-typed s (bool b) k h = tt
-shift-typed s (pointer t b o) k h = moved s t b o (addW o k) (addW-word o k) h
+module _ (Q : ℕ → Val → Type 0) (K : Kept Q) where
+  divide-keeps : (a b : ℕ) → Yields (Q tint) (divide a b)
+  unfolding divide
+  divide-keeps a b = go (eqb b 0) (eqb a least && eqb b minus-one)
+    where
+      go : (c d : Bool) → Yields (Q tint) (cond c (stops by-zero) (cond d (stops overflow) (ok (int (divW a b)))))
+      go true d = tt
+      go false true = tt
+      go false false = K .of-int (divW a b) (divW-word a b)
 
--- an operator on two ints or two bools, whose results have the type d
-ints-typed :
-    (d : ℕ) (x y : Val) (f : ℕ → ℕ → Result) → ((a b : ℕ) → Yields (HasType d) (f a b)) → Yields (HasType d) (ints x y f)
-ints-typed d x y f h = with-both-yields (HasType d) (asInt x) (asInt y) f (λ a b p q. h a b)
+  shift-keeps : (s : ℕ) (x : Val) (k : ℕ) → Q s x → Yields (Q s) (shift x k)
+  unfolding shift
+  shift-keeps s (int w) k h = tt
+  shift-keeps s (float b) k h = tt
+  shift-keeps s (literal w) k h = tt
+  shift-keeps s (char c) k h = tt
+  shift-keeps s (bool b) k h = tt
+  shift-keeps s (pointer t b o) k h = K .of-pointer s t b o (addW o k) (addW-word o k) h
 
-bools-typed :
-    (d : ℕ) (x y : Val) (f : Bool → Bool → Result) → ((a b : Bool) → Yields (HasType d) (f a b)) → Yields (HasType d) (bools x y f)
-bools-typed d x y f h = with-both-yields (HasType d) (asBool x) (asBool y) f (λ a b p q. h a b)
+  -- an operator on two ints or two bools, whose results have the type d
+  ints-keep : (d : ℕ) (x y : Val) (f : ℕ → ℕ → Result) → ((a b : ℕ) → Yields (Q d) (f a b)) → Yields (Q d) (ints x y f)
+  ints-keep d x y f h = with-both-yields (Q d) (asInt x) (asInt y) f (λ a b p q. h a b)
 
--- s and u: the types of the operands
-apply2-typed : (o : Two) (x y : Val) (s u d : ℕ) → Takes o s u d → HasType s x → Yields (HasType d) (apply2 o x y)
-unfolding apply2
-apply2-typed Add x y s u d g h = rw (g .2) (ints-typed tint x y _ (λ a b. int-typed (addW a b) (addW-word a b)))
-apply2-typed Sub x y s u d g h = rw (g .2) (ints-typed tint x y _ (λ a b. int-typed (subW a b) (subW-word a b)))
-apply2-typed Mul x y s u d g h = rw (g .2) (ints-typed tint x y _ (λ a b. int-typed (mulW a b) (mulW-word a b)))
-apply2-typed Div x y s u d g h = rw (g .2) (ints-typed tint x y divide divide-typed)
-apply2-typed Eq x y s u d g h = rw (g .2) (ints-typed tbool x y _ (λ a b. bool-typed _))
-apply2-typed Lt x y s u d g h = rw (g .2) (ints-typed tbool x y _ (λ a b. bool-typed _))
-apply2-typed Gt x y s u d g h = rw (g .2) (ints-typed tbool x y _ (λ a b. bool-typed _))
-apply2-typed Le x y s u d g h = rw (g .2) (ints-typed tbool x y _ (λ a b. bool-typed _))
-apply2-typed Ge x y s u d g h = rw (g .2) (ints-typed tbool x y _ (λ a b. bool-typed _))
-apply2-typed And x y s u d g h = rw (g .2) (bools-typed tbool x y _ (λ a b. bool-typed _))
-apply2-typed Or x y s u d g h = rw (g .2) (bools-typed tbool x y _ (λ a b. bool-typed _))
-apply2-typed PtrAdd x y s u d g h = rw (g .2) (with-one-yields (HasType s) (asInt y) (shift x) (λ k e. shift-typed s x k h))
+  bools-keep : (d : ℕ) (x y : Val) (f : Bool → Bool → Result) → ((a b : Bool) → Yields (Q d) (f a b)) → Yields (Q d) (bools x y f)
+  bools-keep d x y f h = with-both-yields (Q d) (asBool x) (asBool y) f (λ a b p q. h a b)
+
+  pub not-keeps : (d : ℕ) (x : Val) → d ≡ tbool → Yields (Q d) (apply1 Not x)
+  unfolding apply1
+  not-keeps d x e = rw e (with-one-yields (Q tbool) (asBool x) _ (λ b q. K .of-bool (not b)))
+
+  -- s and u: the types of the operands
+  pub apply2-keeps : (o : Two) (x y : Val) (s u d : ℕ) → Takes o s u d → Q s x → Yields (Q d) (apply2 o x y)
+  unfolding apply2
+  apply2-keeps Add x y s u d g h = rw (g .2) (ints-keep tint x y _ (λ a b. K .of-int (addW a b) (addW-word a b)))
+  apply2-keeps Sub x y s u d g h = rw (g .2) (ints-keep tint x y _ (λ a b. K .of-int (subW a b) (subW-word a b)))
+  apply2-keeps Mul x y s u d g h = rw (g .2) (ints-keep tint x y _ (λ a b. K .of-int (mulW a b) (mulW-word a b)))
+  apply2-keeps Div x y s u d g h = rw (g .2) (ints-keep tint x y divide divide-keeps)
+  apply2-keeps Eq x y s u d g h = rw (g .2) (ints-keep tbool x y _ (λ a b. K .of-bool _))
+  apply2-keeps Lt x y s u d g h = rw (g .2) (ints-keep tbool x y _ (λ a b. K .of-bool _))
+  apply2-keeps Gt x y s u d g h = rw (g .2) (ints-keep tbool x y _ (λ a b. K .of-bool _))
+  apply2-keeps Le x y s u d g h = rw (g .2) (ints-keep tbool x y _ (λ a b. K .of-bool _))
+  apply2-keeps Ge x y s u d g h = rw (g .2) (ints-keep tbool x y _ (λ a b. K .of-bool _))
+  apply2-keeps And x y s u d g h = rw (g .2) (bools-keep tbool x y _ (λ a b. K .of-bool _))
+  apply2-keeps Or x y s u d g h = rw (g .2) (bools-keep tbool x y _ (λ a b. K .of-bool _))
+  apply2-keeps PtrAdd x y s u d g h = rw (g .2) (with-one-yields (Q s) (asInt y) (shift x) (λ k e. shift-keeps s x k h))
+
+pub types-kept : Kept HasType
+unfolding typeOf inRange
+types-kept = record { of-int = λ w h. lt→ltb w W h; of-bool = λ b. tt; of-pointer = moved }
 
 -- ---- expressions
 eval-yields :
@@ -123,12 +124,11 @@ eval-yields :
 unfolding eval apply1
 eval-yields t σ (constant v) d g h = g
 eval-yields t σ (one Not a) d g h =
-    with-one-yields (HasType d) (σ a) (apply1 Not)
-    (λ x p. with-one-yields (HasType d) (asBool x) _ (λ b q. rw (g .1) (bool-typed (not b))))
+    with-one-yields (HasType d) (σ a) (apply1 Not) (λ x p. not-keeps HasType types-kept d x (g .1))
 eval-yields t σ (one Id a) d g h = with-one-yields (HasType d) (σ a) (apply1 Id) (λ x p. rw g (h a x p first))
 eval-yields t σ (two o a b) d g h =
     with-both-yields (HasType d) (σ a) (σ b) (apply2 o)
-    (λ x y p q. apply2-typed o x y (t a) (t b) d g (h a x p first))
+    (λ x y p q. apply2-keeps HasType types-kept o x y (t a) (t b) d g (h a x p first))
 
 -- t: the type of each name; the names that e reads hold values of their types, those that hold one
 pub eval-typed :

@@ -2,30 +2,26 @@
 -- Beside the facts stand both runs of each, which differ there in that clause alone.
 use Prim.Native.Nat.{ℕ, _+_}
 use mathlib.Core.Path.{_≡_, refl, sym, subst}
-use mathlib.Core.Bool.{Bool, cond, not, _&&_, xor}
+use mathlib.Core.Bool.{Bool, cond, not, _&&_}
 use mathlib.Core.List.{List, [], _∷_, map}
 use mathlib.Core.Option.{Option, none, some}
-use native.Mathlib.Decide.{ℕ-discrete}
 use native.Mathlib.Omega.{arith}
+use mir.Facts.{and-yes}
 use lib.ListN.{length, getD}
 use lib.Dec.{T, T-not, eqb, eqb-refl}
 use lib.Ieee.Bits.{is-true}
-use Rattle.arith.specs.Code.{code1, code2, with-code, one-of, two-of}
-use Rattle.arith.specs.Map.{upd}
-use Rattle.arith.specs.Operation.{Cause, by-zero, overflow, asInt, asBool, with-both, with-one, divide, shift, apply1, apply2, eval}
-use Rattle.arith.specs.Value.{Val, int, float, literal, char, bool, pointer, typeOf, inRange}
-use Rattle.arith.specs.Word.{W, least, minus-one, addW, subW, mulW, divW, ltW}
-use Rattle.record.specs.Form.{value-of, form}
-use Rattle.record.specs.Record.{nm, Function, names-of, type-in}
-use Rattle.record.specs.Shape.{shape-of}
-use Rattle.numbering.specs.Number.{is-save, count-saves}
-use Rattle.machine.specs.Machine.{Store, Answer, go-on, Event, Stop, at-end, at-ret, at-halt, at-unset, at-division, tick, assign, happens, read-all, finish, take-value, answered, perform, ask, acknowledged, tell, leave, choose, act, step, run-block, nth, arrive, passes, through, advance-from, advance, begin, iterate, run-with, run}
-use Rattle.machine.specs.Reached.{reached-in, reached-from, reached-with, reached, is-set, all-set, none-unset, read-no-unset}
+use Rattle.arith.specs.Operation.{Cause, by-zero, overflow}
+use Rattle.arith.specs.Value.{Val, int, float, literal, char, bool, pointer}
+use Rattle.arith.specs.Word.{W, least, minus-one}
+use Rattle.record.specs.Record.{nm, Function, names-of}
+use Rattle.machine.specs.Machine.{Store, Answer, go-on, Event, Stop, at-end, at-ret, at-halt, at-unset, at-division, run}
+use Rattle.machine.specs.Reached.{read-no-unset}
 use Rattle.machine.specs.Examples.{store-of, event}
-use Rattle.pairing.specs.Demand.{Shown, next-block, stop, shown, saves-passed, saves-before, Agree, Starts, RunAlike}
+use Rattle.pairing.specs.Demand.{Shown, next-block, stop, Agree, Starts, RunAlike}
 use Rattle.pairing.specs.Premises.{typed, first-set, all-same}
 use Rattle.pairing.specs.Wrong.{Case, run₁, run₂, Seen, seen₁, seen₂, event-id, event-code, event-callee, event-argument, event-arguments, event-order, event-ret, event-less, event-more, value-first, value-middle, value-last, value-for-nothing, nothing-for-value, value-bits, value-literal, next-block-other, end-or-block, none-or-block, stop-id, stop-cause, stop-kind, stop-halt, step-more, step-less, filed-more, filed-less, before-stop, behind-stop, filed-elsewhere, passed-other}
-use Rattle.pairing.proofs.Instances.{both, starts-from}
+use Rattle.pairing.proofs.Instances.{starts-from}
+use Rattle.pairing.specs.Opened.{all-of-pairing}
 
 -- ---- from tests that compute to what demand 3 says of one run
 -- the one place where the premise of demand 3 is used
@@ -52,9 +48,9 @@ pub alike :
     (c : Case) → T (ready c) → RunAlike (c .first) (c .second) →
     Agree (names-of (c .first)) (c .second .blocks) (run₁ c) (run₂ c)
 alike c t h =
-    let (ty, t₁) = both (typed (c .first .types) (c .start₁)) _ t in
-    let (st, t₂) = both (first-set (c .first .args) (c .start₁)) _ t₁ in
-    let (sa, q) = both (all-same (names-of (c .first)) (c .start₁) (c .start₂)) _ t₂ in
+    let (ty, t₁) = and-yes (typed (c .first .types) (c .start₁)) _ t in
+    let (st, t₂) = and-yes (first-set (c .first .args) (c .start₁)) _ t₁ in
+    let (sa, q) = and-yes (all-same (names-of (c .first)) (c .start₁) (c .start₂)) _ t₂ in
     agree (c .first) (c .second) (store-of (c .start₁)) (store-of (c .start₂)) (c .world) (c .many)
     (starts-from (c .first) (c .start₁) (c .start₂) ty st sa) q h
 
@@ -89,7 +85,7 @@ pub record Events : Type 0 where
   pub more : Unlike event-more
 
 pub events-refused : Events
-unfolding code1 code2 with-code one-of two-of upd asInt asBool with-both with-one divide shift apply1 apply2 eval typeOf inRange addW subW mulW divW ltW value-of form type-in shape-of is-save count-saves tick assign happens read-all finish take-value answered perform ask acknowledged tell leave choose act step run-block nth arrive passes through advance-from advance begin iterate run-with run xor ℕ-discrete typed first-set all-same reached-in reached-from reached-with reached is-set all-set none-unset read-no-unset shown saves-passed saves-before
+unfolding all-of-pairing
 events-refused =
     record {
       id = λ h. told (λ es. first-event es .id) (alike event-id tt h .events) tt;
@@ -126,7 +122,7 @@ pub events-alone :
     (ints-shown 2 [] (event 4 68 0 (int 3 ∷ []) ∷ event 5 68 0 (int 3 ∷ []) ∷ []), ints-shown 2 (go-on ∷ []) (event 4 68 0 (int 3 ∷ []) ∷ [])) ∷
     (ints-shown 2 (go-on ∷ []) (event 4 68 0 (int 3 ∷ []) ∷ []), ints-shown 2 [] (event 4 68 0 (int 3 ∷ []) ∷ event 5 68 0 (int 3 ∷ []) ∷ [])) ∷
     []
-unfolding code1 code2 with-code one-of two-of upd asInt asBool with-both with-one divide shift apply1 apply2 eval typeOf inRange addW subW mulW divW ltW value-of form type-in shape-of is-save count-saves tick assign happens read-all finish take-value answered perform ask acknowledged tell leave choose act step run-block nth arrive passes through advance-from advance begin iterate run-with run xor ℕ-discrete typed first-set all-same reached-in reached-from reached-with reached is-set all-set none-unset read-no-unset shown saves-passed saves-before
+unfolding all-of-pairing
 events-alone = refl
 
 -- ---- "the same value or nothing in every original name"
@@ -150,7 +146,7 @@ pub record Values : Type 0 where
   pub literal : Unlike value-literal
 
 pub values-refused : Values
-unfolding code1 code2 with-code one-of two-of upd asInt asBool with-both with-one divide shift apply1 apply2 eval typeOf inRange addW subW mulW divW ltW value-of form type-in shape-of is-save count-saves tick assign happens read-all finish take-value answered perform ask acknowledged tell leave choose act step run-block nth arrive passes through advance-from advance begin iterate run-with run xor ℕ-discrete typed first-set all-same reached-in reached-from reached-with reached is-set all-set none-unset read-no-unset shown saves-passed saves-before
+unfolding all-of-pairing
 values-refused =
     record {
       first = λ h. told held (alike value-first tt h .values (nm 0) (omega arith)) tt;
@@ -175,7 +171,7 @@ pub values-alone :
     (three-shown (some (int 3)) (some (float 0)) none, three-shown (some (int 3)) (some (float least)) none) ∷
     (three-shown (some (int 3)) (some (float 0)) none, three-shown (some (int 3)) (some (literal 0)) none) ∷
     []
-unfolding code1 code2 with-code one-of two-of upd asInt asBool with-both with-one divide shift apply1 apply2 eval typeOf inRange addW subW mulW divW ltW value-of form type-in shape-of is-save count-saves tick assign happens read-all finish take-value answered perform ask acknowledged tell leave choose act step run-block nth arrive passes through advance-from advance begin iterate run-with run xor ℕ-discrete typed first-set all-same reached-in reached-from reached-with reached is-set all-set none-unset read-no-unset shown saves-passed saves-before
+unfolding all-of-pairing
 values-alone = refl
 
 -- ---- "the same next block or the same stop"
@@ -201,7 +197,7 @@ pub record Places : Type 0 where
   pub halt : Unlike stop-halt
 
 pub places-refused : Places
-unfolding code1 code2 with-code one-of two-of upd asInt asBool with-both with-one divide shift apply1 apply2 eval typeOf inRange addW subW mulW divW ltW value-of form type-in shape-of is-save count-saves tick assign happens read-all finish take-value answered perform ask acknowledged tell leave choose act step run-block nth arrive passes through advance-from advance begin iterate run-with run xor ℕ-discrete typed first-set all-same reached-in reached-from reached-with reached is-set all-set none-unset read-no-unset shown saves-passed saves-before
+unfolding all-of-pairing
 places-refused =
     record {
       next-block = λ h. told where-shown (alike next-block-other tt h .place) tt;
@@ -226,7 +222,7 @@ pub places-alone :
     (division-shown (at-division 2 by-zero), division-shown at-unset) ∷
     (shows (event 1 20 0 [] ∷ []) (none ∷ []) (stop at-halt) [] [] 2, shows (event 1 20 0 [] ∷ []) (none ∷ []) (stop at-unset) [] [] 2) ∷
     []
-unfolding code1 code2 with-code one-of two-of upd asInt asBool with-both with-one divide shift apply1 apply2 eval typeOf inRange addW subW mulW divW ltW value-of form type-in shape-of is-save count-saves tick assign happens read-all finish take-value answered perform ask acknowledged tell leave choose act step run-block nth arrive passes through advance-from advance begin iterate run-with run xor ℕ-discrete typed first-set all-same reached-in reached-from reached-with reached is-set all-set none-unset read-no-unset shown saves-passed saves-before
+unfolding all-of-pairing
 places-alone = refl
 
 -- ---- "exactly as many more steps as the saves filed"
@@ -240,7 +236,7 @@ pub record Steps : Type 0 where
   pub filed-elsewhere : Unlike filed-elsewhere
 
 pub steps-refused : Steps
-unfolding code1 code2 with-code one-of two-of upd asInt asBool with-both with-one divide shift apply1 apply2 eval typeOf inRange addW subW mulW divW ltW value-of form type-in shape-of is-save count-saves tick assign happens read-all finish take-value answered perform ask acknowledged tell leave choose act step run-block nth arrive passes through advance-from advance begin iterate run-with run xor ℕ-discrete typed first-set all-same reached-in reached-from reached-with reached is-set all-set none-unset read-no-unset shown saves-passed saves-before
+unfolding all-of-pairing
 steps-refused =
     record {
       more = λ h. told (λ k. k) (alike step-more tt h .steps) tt;
@@ -265,7 +261,7 @@ pub steps-alone :
     (steps-shown (stop (at-division 1 by-zero)) [] 1, steps-shown (stop (at-division 1 by-zero)) [] 2) ∷
     (shows [] (some (int 3) ∷ []) (next-block 1) [] (0 ∷ []) 1, shows [] (some (int 3) ∷ []) (next-block 1) [] (0 ∷ []) 2) ∷
     []
-unfolding code1 code2 with-code one-of two-of upd asInt asBool with-both with-one divide shift apply1 apply2 eval typeOf inRange addW subW mulW divW ltW value-of form type-in shape-of is-save count-saves tick assign happens read-all finish take-value answered perform ask acknowledged tell leave choose act step run-block nth arrive passes through advance-from advance begin iterate run-with run xor ℕ-discrete typed first-set all-same reached-in reached-from reached-with reached is-set all-set none-unset read-no-unset shown saves-passed saves-before
+unfolding all-of-pairing
 steps-alone = refl
 
 -- ---- the answers left and the blocks passed
@@ -280,7 +276,7 @@ pub record Rests : Type 0 where
   pub passed : Unlike passed-other
 
 pub rests-refused : Rests
-unfolding code1 code2 with-code one-of two-of upd asInt asBool with-both with-one divide shift apply1 apply2 eval typeOf inRange addW subW mulW divW ltW value-of form type-in shape-of is-save count-saves tick assign happens read-all finish take-value answered perform ask acknowledged tell leave choose act step run-block nth arrive passes through advance-from advance begin iterate run-with run xor ℕ-discrete typed first-set all-same reached-in reached-from reached-with reached is-set all-set none-unset read-no-unset shown saves-passed saves-before
+unfolding all-of-pairing
 rests-refused =
     record {
       answers-less = λ h. told length (alike event-less tt h .answers) tt;
@@ -290,5 +286,5 @@ rests-refused =
 
 pub passed-alone :
     sides passed-other ≡ (shows [] [] (next-block 3) [] (1 ∷ 0 ∷ []) 2, shows [] [] (next-block 3) [] (2 ∷ 0 ∷ []) 2)
-unfolding code1 code2 with-code one-of two-of upd asInt asBool with-both with-one divide shift apply1 apply2 eval typeOf inRange addW subW mulW divW ltW value-of form type-in shape-of is-save count-saves tick assign happens read-all finish take-value answered perform ask acknowledged tell leave choose act step run-block nth arrive passes through advance-from advance begin iterate run-with run xor ℕ-discrete typed first-set all-same reached-in reached-from reached-with reached is-set all-set none-unset read-no-unset shown saves-passed saves-before
+unfolding all-of-pairing
 passed-alone = refl

@@ -2,28 +2,18 @@
 -- it cannot be narrowed to fewer of them.
 use Prim.Native.Nat.{ℕ}
 use mathlib.Core.Path.{_≡_, refl}
-use mathlib.Core.Bool.{xor}
 use mathlib.Core.List.{[], _∷_, map}
 use mathlib.Core.Option.{some}
-use native.Mathlib.Decide.{ℕ-discrete}
 use native.Mathlib.Omega.{arith}
 use lib.ListN.{length}
-use Rattle.arith.specs.Code.{code1, code2, with-code, one-of, two-of}
-use Rattle.arith.specs.Map.{upd}
-use Rattle.arith.specs.Operation.{asInt, asBool, with-both, with-one, divide, shift, apply1, apply2, eval}
-use Rattle.arith.specs.Value.{int, typeOf, inRange}
-use Rattle.arith.specs.Word.{addW, subW, mulW, divW, ltW}
-use Rattle.record.specs.Form.{value-of, form}
-use Rattle.record.specs.Record.{nm, type-in}
-use Rattle.record.specs.Shape.{shape-of}
-use Rattle.numbering.specs.Number.{is-save, count-saves}
-use Rattle.machine.specs.Machine.{Store, go-on, tick, assign, happens, read-all, finish, take-value, answered, perform, ask, acknowledged, tell, leave, choose, act, step, run-block, nth, arrive, passes, through, advance-from, advance, begin, iterate, run-with, run}
-use Rattle.machine.specs.Reached.{reached-in, reached-from, reached-with, reached, is-set, all-set, none-unset, read-no-unset}
-use Rattle.pairing.specs.Demand.{shown, saves-passed, saves-before, Starts, RunAlike}
-use Rattle.pairing.specs.Premises.{typed, first-set, all-same}
+use Rattle.arith.specs.Value.{int}
+use Rattle.record.specs.Record.{nm}
+use Rattle.machine.specs.Machine.{Store, go-on}
+use Rattle.pairing.specs.Demand.{Starts, RunAlike}
 use Rattle.pairing.specs.Wrong.{seen₁, seen₂}
 use Rattle.pairing.specs.Rare.{copies-unread, copies-early, greatest-argument, rare-argument, false-argument, reads-made, greatest-answer, writes-early, behind-answers, takes-bool, second-block, behind-loop, ordinary}
 use Rattle.pairing.proofs.Unlike.{agree, alike, Unlike, told, first-word, held, where-shown}
+use Rattle.pairing.specs.Opened.{all-of-pairing}
 
 pub record Rare : Type 0 where
   pub unread : Unlike copies-unread
@@ -39,7 +29,7 @@ pub record Rare : Type 0 where
   pub more-blocks : Unlike behind-loop
 
 pub rare-refused : Rare
-unfolding code1 code2 with-code one-of two-of upd asInt asBool with-both with-one divide shift apply1 apply2 eval typeOf inRange addW subW mulW divW ltW value-of form type-in shape-of is-save count-saves tick assign happens read-all finish take-value answered perform ask acknowledged tell leave choose act step run-block nth arrive passes through advance-from advance begin iterate run-with run xor ℕ-discrete typed first-set all-same reached-in reached-from reached-with reached is-set all-set none-unset read-no-unset shown saves-passed saves-before
+unfolding all-of-pairing
 rare-refused =
     record {
       unread = λ h. told length (alike copies-unread tt h .events) tt;
@@ -57,7 +47,7 @@ rare-refused =
 
 -- what else the same functions do
 pub ordinary-alike : map seen₁ ordinary ≡ map seen₂ ordinary
-unfolding code1 code2 with-code one-of two-of upd asInt asBool with-both with-one divide shift apply1 apply2 eval typeOf inRange addW subW mulW divW ltW value-of form type-in shape-of is-save count-saves tick assign happens read-all finish take-value answered perform ask acknowledged tell leave choose act step run-block nth arrive passes through advance-from advance begin iterate run-with run xor ℕ-discrete typed first-set all-same reached-in reached-from reached-with reached is-set all-set none-unset read-no-unset shown saves-passed saves-before
+unfolding all-of-pairing
 ordinary-alike = refl
 
 -- made names may hold anything: other things in the two stores, from which demand 3 starts
@@ -73,5 +63,5 @@ starts-bare w v =
     }
 
 pub made-names-differ : RunAlike reads-made reads-made → ⊥
-unfolding code1 code2 with-code one-of two-of upd asInt asBool with-both with-one divide shift apply1 apply2 eval typeOf inRange addW subW mulW divW ltW value-of form type-in shape-of is-save count-saves tick assign happens read-all finish take-value answered perform ask acknowledged tell leave choose act step run-block nth arrive passes through advance-from advance begin iterate run-with run xor ℕ-discrete typed first-set all-same reached-in reached-from reached-with reached is-set all-set none-unset read-no-unset shown saves-passed saves-before
+unfolding all-of-pairing
 made-names-differ h = told first-word (agree reads-made reads-made (all-hold 3) (all-hold 5) (go-on ∷ []) 1 (starts-bare 3 5) tt h .events) tt

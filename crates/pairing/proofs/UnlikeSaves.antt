@@ -8,11 +8,11 @@ use Rattle.arith.specs.Operation.{by-zero}
 use Rattle.arith.specs.Value.{tint}
 use Rattle.record.specs.Record.{Instr, Block, Function}
 use Rattle.record.specs.Shape.{shape-of}
-use Rattle.numbering.specs.Number.{is-save, count-saves}
 use Rattle.machine.specs.Machine.{at-end, at-ret, at-halt, at-division, before, stopped, nth}
 use Rattle.record.specs.Short.{gives, goes}
 use Rattle.pairing.specs.Demand.{saves-field, body-of, saves-passed, saves-before, count-dests, SavesBounded}
 use Rattle.pairing.specs.Wrong.{const, print, nop, ret, id, saving, body, fn}
+use Rattle.pairing.specs.Opened.{all-of-pairing}
 
 -- ---- "No block has more saves than the same block of the input has instructions with a destination."
 -- three blocks: two instructions with a dest among four; none among three; one
@@ -84,5 +84,5 @@ pub counts :
     (0 ∷ 0 ∷ 0 ∷ 1 ∷ 1 ∷ 2 ∷ 0 ∷ 0 ∷ []) ∷
     (3 ∷ 2 ∷ 1 ∷ 0 ∷ []) ∷
     []
-unfolding nth shape-of count-dests saves-passed saves-before is-save count-saves
+unfolding all-of-pairing
 counts = refl

@@ -14,6 +14,7 @@ use Rattle.numbering.specs.declared.ValNum.{ValNum}
 use Rattle.numbering.specs.Number.{operands}
 use Rattle.machine.specs.Machine.{Store, read-cons, read-all}
 use Rattle.pairing.specs.Joint.{Has, by-id, by-value, map₁, map₂, number, number-all, Fits, Elem, first, later}
+use Rattle.pairing.specs.Demand.{All}
 
 abbrev pub Valuation : Type 0
 Valuation = ValNum → Option Val
@@ -99,6 +100,11 @@ number-eval t env σ ρ l (two o a b) v p =
     let c = l a n q in
     let d = l b m s in
     rw (r, c .stored, c .valued, d .stored, d .valued)
+
+-- what holds of all names of a list holds of each
+pub all-elem : (P : NameIx → Type 0) (xs : List NameIx) → All P xs → (x : NameIx) → Elem x xs → P x
+all-elem P xs h x (first {xs = ys}) = h .0
+all-elem P xs h x (later {xs = ys} e) = all-elem P ys (h .1) x e
 
 -- which name of one, or of two, is meant
 pub elem-one : {P : Type 0} {x a : NameIx} → Elem x (a ∷ []) → (a ≡ x → P) → P

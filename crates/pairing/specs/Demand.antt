@@ -9,9 +9,14 @@ use Rattle.arith.specs.Value.{Val, HasType}
 use Rattle.record.specs.declared.NameIx.{NameIx}
 use Rattle.record.specs.Record.{Instr, Block, Function, names-of, type-in}
 use Rattle.record.specs.Shape.{shape-of}
+use Rattle.record.specs.Good.{Each}
 use Rattle.numbering.specs.Number.{count-saves}
 use Rattle.machine.specs.Machine.{Store, Answer, Stop, Place, before, stopped, Run, nth, run}
 use Rattle.machine.specs.Reached.{read-no-unset}
+
+-- P of each of a list
+abbrev pub All : {A : Type 0} → (A → Type 0) → List A → Type 0
+All P xs = Each (λ left x. P x) xs
 
 -- "the same next block or the same stop"
 pub data Shown : Type 0 where

@@ -7,17 +7,12 @@ use mathlib.Core.Bool.{Bool, _&&_}
 use mathlib.Core.List.{List, [], _∷_, _++_, map}
 use lib.ListN.{length, take, drop}
 use lib.Dec.{eqb}
-use Rattle.record.specs.Answer.{Returned, number, check-answer, checked}
-use Rattle.record.specs.Hex.{digit-value, bytes-from, hex}
-use Rattle.record.specs.Read.{name, names, length-field, end, contents, read}
-use Rattle.record.specs.Reader.{give, _>>=_, field, text, times}
-use Rattle.record.specs.Record.{type-in}
-use Rattle.record.specs.Tests.{at-most, length-test, version-test, names-test, type-test, text-length-test, text-test}
-use Rattle.record.specs.Text.{all-text, well-formed, undigited, reserved, same-bytes, among}
-use Rattle.record.specs.Typing.{block-types, accept}
-use Rattle.record.specs.Write.{be}
+use Rattle.record.specs.Answer.{Returned}
+use Rattle.record.specs.Hex.{hex}
+use Rattle.record.specs.Text.{all-text, well-formed, undigited, reserved}
 use Rattle.record.specs.Refusals.{accepted, refused, says, with-length, otherwise}
 use Rattle.record.specs.Tables.{count, keep}
+use Rattle.record.specs.Opened.{all-of-record}
 
 -- a text as its bytes
 unfoldable pub spelled : String → List ℕ
@@ -42,7 +37,7 @@ pub bytes-accepted :
     spelled ".0123456789ABCDEFGHIJKLMNOPQRSTUVWXYZ_abcdefghijklmnopqrstuvwxyz" ∷
     hex "00010203 10111213 20212223 30313233 40414243 50515253 60616263 70717273 80818283 90919293 A0A1A2A3 B0B1B2B3 C0C1C2C3 D0D1D2D3 E0E1E2E3 F0F1F2F3" ∷
     []
-unfolding count keep spelled number check-answer checked digit-value bytes-from hex name names length-field end contents read give _>>=_ field text times at-most length-test version-test names-test type-test text-length-test text-test all-text well-formed undigited reserved same-bytes among type-in block-types accept be
+unfolding all-of-record count keep spelled
 bytes-accepted = refl
 
 -- ---- reserved texts
@@ -82,5 +77,5 @@ nearly-reserved =
 
 pub reserved-or-nearly :
     otherwise (λ t. named 0 (spelled t)) (refused 4 10) reserved-texts ++ otherwise (λ t. named 0 (spelled t)) accepted nearly-reserved ≡ []
-unfolding count keep spelled number check-answer checked digit-value bytes-from hex name names length-field end contents read give _>>=_ field text times at-most length-test version-test names-test type-test text-length-test text-test all-text well-formed undigited reserved same-bytes among type-in block-types accept be
+unfolding all-of-record count keep spelled
 reserved-or-nearly = refl

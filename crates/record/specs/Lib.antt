@@ -10,6 +10,7 @@ pub mod Form
 pub mod Answer
 pub mod Hex
 pub mod Good
+pub mod Opened
 pub mod Refusals
 pub mod Tables
 pub mod Depths

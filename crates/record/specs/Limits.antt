@@ -4,18 +4,12 @@ use Prim.Native.String.{String}
 use mathlib.Core.Path.{_≡_, refl}
 use mathlib.Core.List.{List, [], _∷_, _++_, flatMap}
 use lib.ListN.{replicate}
-use Rattle.record.specs.Answer.{Returned, number, check-answer, checked}
-use Rattle.record.specs.Hex.{digit-value, bytes-from, hex}
-use Rattle.record.specs.Read.{name-index, arguments, operands, instr, block, name, names, length-field, end, contents, read}
-use Rattle.record.specs.Reader.{give, _>>=_, here, field, text, if-there, times}
-use Rattle.record.specs.Record.{type-in, id-bytes}
-use Rattle.record.specs.Shape.{shape-of}
-use Rattle.record.specs.Tests.{any, at-most, below, length-test, version-test, names-test, type-test, text-length-test, text-test, saves-test, code-test, count-test}
-use Rattle.record.specs.Text.{all-text, well-formed, undigited, reserved, same-bytes, among}
-use Rattle.record.specs.Typing.{obeys, well-typed, body-types, block-types, accept}
+use Rattle.record.specs.Answer.{Returned}
+use Rattle.record.specs.Hex.{hex}
 use Rattle.record.specs.Write.{be}
 use Rattle.record.specs.Refusals.{accepted, refused, says, with-length}
 use Rattle.record.specs.Tables.{count}
+use Rattle.record.specs.Opened.{all-of-record}
 
 -- n names with different texts of two letters
 abbrev pub many-names : ℕ → List ℕ
@@ -53,5 +47,5 @@ pub limits-reached :
     accepted ∷ refused 3 6 ∷ accepted ∷ refused 3 8 ∷ accepted ∷ refused 3 10 ∷
     accepted ∷ refused 3 24 ∷ accepted ∷ refused 3 22 ∷
     accepted ∷ refused 3 22 ∷ accepted ∷ accepted ∷ refused 3 22 ∷ []
-unfolding flatMap count number check-answer checked digit-value bytes-from hex name-index arguments operands instr block name names length-field end contents read give _>>=_ here field text if-there times type-in id-bytes shape-of any at-most below length-test version-test names-test type-test text-length-test text-test saves-test code-test count-test all-text well-formed undigited reserved same-bytes among obeys well-typed body-types block-types accept be
+unfolding all-of-record flatMap count
 limits-reached = refl

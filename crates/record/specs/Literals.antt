@@ -3,19 +3,12 @@ use Prim.Native.Nat.{ℕ}
 use Prim.Native.String.{String}
 use mathlib.Core.Path.{_≡_, refl}
 use mathlib.Core.List.{List, [], _∷_, _++_, map, flatMap}
-use Rattle.record.specs.Answer.{Returned, number, check-answer, checked}
-use Rattle.record.specs.Hex.{digit-value, bytes-from, hex}
-use Rattle.record.specs.Read.{name-index, literal, operands, instr, block, name, names, length-field, end, contents, read}
-use Rattle.record.specs.Reader.{give, _>>=_, here, field, text, if-there, times}
-use Rattle.record.specs.Record.{type-in, id-bytes}
-use Rattle.record.specs.Shape.{shape-of}
-use Rattle.record.specs.Tests.{any, at-most, below, length-test, version-test, names-test, type-test, text-length-test, text-test, saves-test, code-test, literal-test}
-use Rattle.record.specs.Text.{all-text, well-formed, undigited, reserved, same-bytes, among}
-use Rattle.record.specs.Typing.{obeys, well-typed, body-types, block-types, accept}
-use Rattle.record.specs.Write.{be}
+use Rattle.record.specs.Answer.{Returned}
+use Rattle.record.specs.Hex.{hex}
 use Rattle.record.specs.Refusals.{accepted, refused, says, with-length, otherwise}
 use Rattle.record.specs.Tables.{count, keep}
 use Rattle.record.specs.Letters.{bytes-for}
+use Rattle.record.specs.Opened.{all-of-record}
 
 -- a record with one name, of this type, which is given a literal of this kind
 abbrev pub given : ℕ → ℕ → String → Returned
@@ -55,11 +48,11 @@ in-pointers =
     flatMap (λ type. map (λ kind. (type, kind, refused 7 17, "0000000000000001" ∷ [])) (count 0 4)) (hex "10 11 12 13 F0 F1 F2 F3")
 
 pub literals-tell : flatMap (λ r. otherwise (given (r .0) (r .1)) (r .2) (r .3)) (rows ++ in-pointers) ≡ []
-unfolding flatMap same-bytes count keep number check-answer checked digit-value bytes-from hex name-index literal operands instr block name names length-field end contents read give _>>=_ here field text if-there times type-in id-bytes shape-of any at-most below length-test version-test names-test type-test text-length-test text-test saves-test code-test literal-test all-text well-formed undigited reserved among obeys well-typed body-types block-types accept be
+unfolding all-of-record flatMap count keep
 literals-tell = refl
 
 -- the types, of all bytes, that a literal of each kind fits
 pub types-of-literals :
     map (λ kind. bytes-for (λ type. given type kind "0000000000000001")) (count 0 5) ≡ hex "00 02" ∷ hex "01" ∷ hex "02" ∷ hex "03" ∷ [] ∷ []
-unfolding flatMap same-bytes count keep number check-answer checked digit-value bytes-from hex name-index literal operands instr block name names length-field end contents read give _>>=_ here field text if-there times type-in id-bytes shape-of any at-most below length-test version-test names-test type-test text-length-test text-test saves-test code-test literal-test all-text well-formed undigited reserved among obeys well-typed body-types block-types accept be
+unfolding all-of-record flatMap count keep
 types-of-literals = refl

@@ -8,24 +8,11 @@ use Rattle.arith.specs.Value.{tbool}
 use Rattle.arith.specs.Operation.{Expr}
 use Rattle.record.specs.declared.NameIx.{NameIx}
 use Rattle.record.specs.Record.{Instr, Block, Function, names-of, type-in}
-use Rattle.record.specs.Shape.{shape-of}
 use Rattle.record.specs.Form.{Form, pure, new, effect, return, nop, jump, branch, form}
 use Rattle.numbering.specs.Number.{reads}
+use Rattle.numbering.proofs.Saves.{Original}
 use Rattle.pairing.specs.Joint.{Typed}
-
-abbrev pub All : {A : Type 0} → (A → Type 0) → List A → Type 0
-All P [] = Unit {0}
-All P (x ∷ xs) = P x × All P xs
-
--- whether it has a dest
-unfoldable pub writes : Form → Bool
-writes (pure e) = true
-writes (new xs) = true
-writes (effect xs) = false
-writes (return xs) = false
-writes nop = false
-writes (jump b) = false
-writes (branch a b c) = false
+use Rattle.pairing.specs.Demand.{All}
 
 -- jmp, br and ret
 unfoldable pub terminates : Form → Bool
@@ -42,8 +29,8 @@ pub record FitInstr (N : ℕ) (t : NameIx → ℕ) (i : Instr) : Type 0 where
   pub args : All (λ x. x .0 < N) (reads (form t i))
   -- what it reads is what it has as arguments
   pub all-read : reads (form t i) ≡ i .args
-  pub dest : T (writes (form t i)) → i .dest .0 < N
-  pub shape : shape-of (i .code) .dest ≡ writes (form t i)
+  -- its dest is one of them, and its code has one where its form gives a value
+  pub original : Original N t i
   pub typed : (e : Expr NameIx) → form t i ≡ pure e → Typed t e (t (i .dest))
   pub tested : (x : NameIx) (b c : ℕ) → form t i ≡ branch x b c → t x ≡ tbool
 
