@@ -1,21 +1,18 @@
 -- The names of a record that is read without a fault, and B behind them, lie inside it.
-use Prim.Native.Nat.{ℕ, _+_, _-_, _<_, _≤_}
+use Prim.Native.Nat.{ℕ, _+_, _<_, _≤_}
 use mathlib.Core.Path.{_≡_, refl, sym, _∙_}
 use mathlib.Core.List.{List, []}
-use mathlib.Core.Bool.{Bool, true, false}
 use native.Mathlib.Omega.{arith}
 use lib.ListN.{length}
-use lib.Dec.{ltb}
-use borrow.Author.Tests.{ltb-false}
 use Rattle.arith.proofs.Clash.{clash}
 use Rattle.record.specs.declared.Limits.{Limits}
-use Rattle.record.specs.declared.Refusal.the-variants.{Length}
 use Rattle.record.specs.declared.Test.{Test}
 use Rattle.record.specs.Record.{Placed, Record, most-args, most-blocks}
-use Rattle.record.specs.Reader.{Res, got, fault, Reader, then, refuse, judge, _>>=_, num-at, field}
+use Rattle.record.specs.Reader.{Res, got, fault, Reader, then, _>>=_, num-at, field}
 use Rattle.record.specs.Tests.{at-most, version-test, names-test}
 use Rattle.record.specs.Read.{names, contents, read}
 use Rattle.record.specs.Decode.{names-count, names-end}
+use Rattle.record.proofs.Fields.{field-tells}
 use Rattle.record.proofs.Decode.{Decodes, field-decodes, names-decode, length-decodes}
 
 -- if the reader passes, s has at least k bytes
@@ -23,14 +20,7 @@ record Reaches {A : Type 0} (r : Reader A) (s : List ℕ) (at k : ℕ) : Type 0 
   pub told : (y : A) (q : ℕ) → r s at ≡ got y q → k ≤ length s
 
 field-reaches : (w : ℕ) (test : ℕ → Test) (s : List ℕ) (at : ℕ) → 0 < w → Reaches (field w test) s at (at + w)
-unfolding field
-field-reaches w test s at h = record { told = λ y q e. go (ltb (length s - at) w) refl y q e }
-  where
-    go :
-        (b : Bool) → ltb (length s - at) w ≡ b → (y q : ℕ) →
-        refuse b Length at (judge (test (num-at s at w)) at (got (num-at s at w) (at + w))) ≡ got y q → at + w ≤ length s
-    go true k y q e = clash (cc)
-    go false k y q e = let l : w ≤ length s - at = ltb-false (length s - at) w k in omega arith
+field-reaches w test s at h = record { told = λ y q e. omega (arith, h, field-tells w test s at y q e .room) }
 
 module _ {A B : Type 0} {r : Reader A} (f : A → Reader B) {s : List ℕ} {at k : ℕ} where
   first-reaches : Reaches r s at k → Reaches (r >>= f) s at k

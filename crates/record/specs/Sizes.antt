@@ -25,6 +25,10 @@ longest-block-lines = 24000
 abbrev pub longest-names : ℕ
 longest-names = 70000
 
+-- a whole record
+abbrev pub longest-record : ℕ
+longest-record = 1000000
+
 -- places are numbers of four bytes
 abbrev pub places-end : ℕ
 places-end = 4294967296

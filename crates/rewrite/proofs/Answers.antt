@@ -146,13 +146,13 @@ module _ (s : List ℕ) (n : ℕ) (size : n ≡ length (bytes (rewriting-in s)))
   unfolding rewrite-output rewritten-bytes
   written-output l e = rw (long l) (e ∙ put-first out (bytes (rewriting-in s)) (omega (arith, size, l)))
 
--- ---- an output of seven bytes for each of the input has room
-pub seven-times :
-    {s : List ℕ} {end : ℕ} (out : List ℕ) → Reads s end → length s ≤ length out / 7 → length (bytes (rewriting-in s)) ≤ length out
-seven-times {s} out h l =
+-- ---- an output of eight bytes for each of the input has room
+pub eight-times :
+    {s : List ℕ} {end : ℕ} (out : List ℕ) → Reads s end → length s ≤ length out / 8 → length (bytes (rewriting-in s)) ≤ length out
+eight-times {s} out h l =
     let r = record-again s (h .it) (h .behind) (h .reads) in
     let n : length (bytes (plain (h .it))) ≤ length s = read-size s (h .it) (h .behind) (h .reads) in
-    let m : length (bytes (rewriting-in s)) ≤ 7 * length (bytes (record-in s)) = rewriting-size (record-in s) (record-ok h) in
+    let m : length (bytes (rewriting-in s)) ≤ 8 * length (bytes (record-in s)) = rewriting-size (record-in s) (record-ok h) in
     let e : length (bytes (plain (h .it))) ≡ length (bytes (record-in s)) = ap (λ (x : Record Placed). length (bytes (plain x))) r in
-    let d : length out / 7 * 7 ≤ length out = omega arith in
+    let d : length out / 8 * 8 ≤ length out = omega arith in
     omega (arith, l, n, m, e, d)

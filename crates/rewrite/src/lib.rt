@@ -206,7 +206,7 @@ pub fn rewrite_measured(
 }
 
 // Of an accepted record, whose names have these types and places and end there. names: a table for what each K saved.
-// A rewriting has at most seven bytes for each of the input, so an output that long has room.
+// A rewriting has at most eight bytes for each of the input, so an output that long has room.
 pub fn rewrite_noting(
     s: &[u8],
     types: &[u8],
@@ -222,7 +222,7 @@ pub fn rewrite_noting(
 {
     let mut heads = [0u64; 512];
     let mut nums = [0u64; 512];
-    if out.len() / 7 >= s.len() {
+    if out.len() / 8 >= s.len() {
         let size = put_once(s, types, places, &mut heads, &mut nums, names, out, end);
         return Rewritten::Written(size.bytes, size.saves as usize);
     }
