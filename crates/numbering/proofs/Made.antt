@@ -6,7 +6,7 @@ use mathlib.Core.Bool.{Bool, true, false, cond}
 use mathlib.Core.List.{List, [], _∷_, _++_, map, map-append}
 use native.Mathlib.Nat.{zero-add, add-zero, suc-add, add-suc, add-assoc}
 use native.Mathlib.Omega.{arith}
-use lib.ListN.{length, getD, length-append, length-map, List·getD-append}
+use lib.ListN.{length, getD, length-append, List·getD-append}
 use lib.Seq.{getD-append-add}
 use Rattle.record.specs.declared.NameIx.{NameIx}
 use Rattle.record.specs.Record.{nm, Instr, Block, Function, names-of, type-in, arg}
@@ -165,14 +165,6 @@ saves-dests N k (b ∷ bs) m =
     rw (length-append (saved-in N (b .body)), saved-in-length N (b .body), ← add-assoc N k c) (sym (names-from-append (N + k) c many)))
 
 -- ---- of a whole rewriting
--- N and as many names more as there are saves
-pub lvn-names : (f : Function) → names-of (lvn f) ≡ names-of f + all-saves (lvn f .blocks)
-unfolding lvn
-lvn-names f =
-    let xs = made-from (names-of f) (blocks-lvn f 0 (f .blocks)) in
-    length-append (f .types) (map (type-in (f .types)) xs) ∙
-    ap (λ n. names-of f + n) (length-map xs (type-in (f .types)) ∙ made-length f (f .blocks) 0)
-
 -- K runs from 0 over all blocks
 pub lvn-makes :
     (f : Function) → OriginalBlocks (names-of f) (type-in (f .types)) (f .blocks) → MakesAll (names-of f) 0 (lvn f .blocks)

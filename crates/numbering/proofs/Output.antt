@@ -15,6 +15,7 @@ use Rattle.record.specs.Typing.{accept}
 use Rattle.record.specs.Write.{content-bytes, bytes}
 use Rattle.record.specs.Good.{RecordOk}
 use Rattle.record.specs.Ranged.{Ranged}
+use Rattle.record.specs.Sizes.{longest-record}
 use Rattle.record.proofs.ReadBack.{ReadsBack, reads-back}
 use Rattle.record.proofs.Accepted.{read-ok}
 use Rattle.record.proofs.Ranged.{read-ranged}
@@ -40,8 +41,8 @@ wide-holds = record { names = omega arith; text = omega arith; body = omega arit
 
 pub rewriting-bytes : (r : Record Instr) → RecordOk limits r → Ranged r → Bytes (bytes (rewriting r))
 rewriting-bytes r h g =
-    let a : length (bytes r) ≤ 650000 = record-most r h in
-    let b : length (bytes (rewriting r)) ≤ 7 * length (bytes r) = rewriting-size r h in
+    let a : length (bytes r) ≤ longest-record = record-most r h in
+    let b : length (bytes (rewriting r)) ≤ 8 * length (bytes r) = rewriting-size r h in
     let c : length (bytes (rewriting r)) ≡ 4 + length (content-bytes (rewriting r)) = record-size (rewriting r) in
     bytes-written wide wide-holds (rewriting r) (rewriting-passes r h) (rewriting-ranged r h g) (omega arith)
 
@@ -60,12 +61,12 @@ module _ (s : List ℕ) (b : Bytes s) (r : Record Placed) (p : ℕ) (e : accept 
   unfolding rewritten-bytes
   accepted-bytes = rewriting-bytes (plain r) accepted-ok (read-ranged limits s b r p reads)
 
-  -- at most seven bytes are written for each byte read
-  pub accepted-size : length (rewritten-bytes r) ≤ 7 * length s
+  -- at most eight bytes are written for each byte read
+  pub accepted-size : length (rewritten-bytes r) ≤ 8 * length s
   unfolding rewritten-bytes
   accepted-size =
       let n : length (bytes (plain r)) ≡ length s = read-length limits s b r p reads in
-      let m : length (bytes (rewriting (plain r))) ≤ 7 * length (bytes (plain r)) = rewriting-size (plain r) accepted-ok in
+      let m : length (bytes (rewriting (plain r))) ≤ 8 * length (bytes (plain r)) = rewriting-size (plain r) accepted-ok in
       omega arith
 
 -- "Its output buffer is 65,536 bytes, which suffices.": no input that the program reads is refused for want of room
@@ -81,6 +82,6 @@ buffer-suffices s out b l o m e = go (accept limits s) refl e
     go : (v : Res (Record Placed)) → accept limits s ≡ v → rewrite-result (length out) v ≡ Room m → ⊥
     go (fault k x) q f = clash (cc)
     go (got r p) q f =
-        let h : length (rewritten-bytes r) ≤ 7 * length s = accepted-size s b r p q in
+        let h : length (rewritten-bytes r) ≤ 8 * length s = accepted-size s b r p q in
         let n = length (rewritten-bytes r) in
         room-left (length out) n (length (made (plain r))) m (ltb (length out) n) refl (omega arith) f

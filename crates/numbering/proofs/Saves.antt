@@ -1,12 +1,11 @@
 -- What the rewriting of an instruction and of a block writes: at most one save before each instruction, and the instruction under its own
 -- id and dest. The saves make the names N + K, N + K + 1, .. in order. Only the definitions of the rewriting are used.
 use Prim.Native.Nat.{ℕ, suc, _+_, _<_}
-use mathlib.Core.Path.{_≡_, refl, sym, ap, _∙_, subst}
-use mathlib.Core.Bool.{Bool, true, false, cond, not, _&&_, true≢false, false≢true}
+use mathlib.Core.Path.{_≡_, refl, sym, _∙_, subst}
+use mathlib.Core.Bool.{Bool, true, false, true≢false}
 use mathlib.Core.List.{List, [], _∷_, _++_}
 use mathlib.Core.Option.{Option, none, some}
 use native.Mathlib.Omega.{arith}
-use lib.Dec.{leb}
 use borrow.Author.Tests.{le-leb, lt-leb}
 use Rattle.arith.specs.declared.One.{One}
 use Rattle.arith.specs.declared.One.the-variants.{Not, Id}
@@ -18,7 +17,7 @@ use Rattle.arith.specs.Value.{Val}
 use Rattle.arith.specs.Operation.{Expr, constant, one, two}
 use Rattle.record.specs.declared.NameIx.{NameIx}
 use Rattle.record.specs.Record.{nm, NameIx-discrete, no-lit, Instr, arg}
-use Rattle.record.specs.Shape.{unknown, row-of, shapes, shape-of}
+use Rattle.record.specs.Shape.{shape-of}
 use Rattle.record.specs.Form.{Form, pure, new, effect, return, nop, jump, branch, form}
 use Rattle.numbering.specs.declared.ValNum.{ValNum}
 use Rattle.numbering.specs.State.{State, new-number, update-env, rehome, see-at, see, gen-new-vals, known}
@@ -48,36 +47,6 @@ code2-dest PtrAdd = refl
 const-dest : shape-of 0 .dest ≡ true
 unfolding shape-of
 const-dest = refl
-
--- a test that every row of a table passes is passed by what a code finds there
-abbrev each-row : {A : Type 0} → (A → Bool) → List (ℕ × A) → Bool
-each-row p [] = true
-each-row p (r ∷ rs) = p (r .1) && each-row p rs
-
-and-true-both : (a b : Bool) → a && b ≡ true → (a ≡ true) × (b ≡ true)
-and-true-both true b h = (refl, h)
-and-true-both false b h = absurd (false≢true h)
-
-cond-either : {A : Type 0} (P : A → Type 0) (b : Bool) (x y : A) → P x → P y → P (cond b x y)
-cond-either P true x y h k = h
-cond-either P false x y h k = k
-
-row-of-each :
-    {A : Type 0} (p : A → Bool) (d : A) (rs : List (ℕ × A)) → p d ≡ true → each-row p rs ≡ true → (c : ℕ) → p (row-of d rs c) ≡ true
-row-of-each p d [] h e c = h
-row-of-each p d (r ∷ rs) h e c =
-    let (first, rest) = and-true-both (p (r .1)) (each-row p rs) e in
-    cond-either (λ x. p x ≡ true) (leb c (r .0)) (r .1) (row-of d rs c) first (row-of-each p d rs h rest c)
-
--- a code with a dest is no terminator's
-dest-not-last : (c : ℕ) → shape-of c .dest ≡ true → shape-of c .last ≡ false
-unfolding shape-of
-dest-not-last c = go (shape-of c .dest) (shape-of c .last) (row-of-each (λ s. not (s .dest && s .last)) unknown shapes refl refl c)
-  where
-    go : (a b : Bool) → not (a && b) ≡ true → a ≡ true → b ≡ false
-    go true true h e = absurd (false≢true h)
-    go true false h e = refl
-    go false b h e = absurd (false≢true e)
 
 -- ---- the save of an instruction
 -- `_x_lvnK = id x` under an id, K = k
@@ -136,22 +105,13 @@ expr-valued s i (constant v) = const-valued i v
 expr-valued s i (one o a) = record { id = refl; dest = refl; code = code1-dest o }
 expr-valued s i (two o a b) = record { id = refl; dest = refl; code = code2-dest o }
 
--- k: K before it. An instruction without a dest keeps its code and has no save
+-- k: K before it. An instruction without a dest has no save
 pub record Emits (N k : ℕ) (i : Instr) (e : Emitted) : Type 0 where
   pub saves : Saves N (i .id) (i .dest) k (e .saves) (e .state .temps)
   pub id : e .instr .id ≡ i .id
   pub dest : e .instr .dest ≡ i .dest
   pub has-dest : shape-of (e .instr .code) .dest ≡ shape-of (i .code) .dest
   pub unsaved : shape-of (i .code) .dest ≡ false → e .saves ≡ []
-  pub code : shape-of (i .code) .dest ≡ false → e .instr .code ≡ i .code
-
--- it is a terminator where i is
-pub emitted-last : (N k : ℕ) (i : Instr) (e : Emitted) → Emits N k i e → shape-of (e .instr .code) .last ≡ shape-of (i .code) .last
-emitted-last N k i e w = go (shape-of (i .code) .dest) refl
-  where
-    go : (d : Bool) → shape-of (i .code) .dest ≡ d → shape-of (e .instr .code) .last ≡ shape-of (i .code) .last
-    go true h = dest-not-last (e .instr .code) (w .has-dest ∙ h) ∙ sym (dest-not-last (i .code) h)
-    go false h = ap (λ c. shape-of c .last) (w .code h)
 
 valued-emits :
     (N k : ℕ) (i : Instr) (e : Emitted) →
@@ -166,7 +126,6 @@ valued-emits N k i e h s w =
       dest = w .dest;
       has-dest = w .code ∙ sym h;
       unsaved = λ n. absurd (true≢false (sym h ∙ n));
-      code = λ n. absurd (true≢false (sym h ∙ n));
     }
 
 number-emits :
@@ -193,7 +152,7 @@ place-emits N s i (some e) h l =
     number-emits N (s .temps) q i e (val-to-instr s i e) (get-val-num (q .state) e) h (overwrite-saves N s i (some e) l) (expr-valued s i e)
 
 unchanged-emits : (N : ℕ) (s : State) (i : Instr) → Emits N (s .temps) i (unchanged s i)
-unchanged-emits N s i = record { saves = no-saves; id = refl; dest = refl; has-dest = refl; unsaved = λ n. refl; code = λ n. refl }
+unchanged-emits N s i = record { saves = no-saves; id = refl; dest = refl; has-dest = refl; unsaved = λ n. refl }
 
 -- an instruction of an input: its code has a dest, d, where its form gives a value, and its dest x is an original name then
 abbrev pub Dests : ℕ → Bool → NameIx → Form → Type 0
@@ -239,7 +198,7 @@ gen-new-vals-temps s (x ∷ xs) = gen-new-vals-temps (see s x) xs ∙ see-temps 
 -- the same of i and of i with other arguments
 emits-args : (N k : ℕ) (s : State) (xs : List NameIx) (i : Instr) (e : Emitted) → Emits N k (rewrite-instr s xs i) e → Emits N k i e
 emits-args N k s xs i e w =
-    record { saves = w .saves; id = w .id; dest = w .dest; has-dest = w .has-dest; unsaved = w .unsaved; code = w .code }
+    record { saves = w .saves; id = w .id; dest = w .dest; has-dest = w .has-dest; unsaved = w .unsaved }
 
 pub instr-emits : (N : ℕ) (t : NameIx → ℕ) (s : State) (i : Instr) → Original N t i → Emits N (s .temps) i (instr-lvn N t s i)
 unfolding instr-lvn

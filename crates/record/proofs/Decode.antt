@@ -13,13 +13,13 @@ use Rattle.record.specs.declared.Shape.{Shape}
 use Rattle.record.specs.declared.Limits.{Limits}
 use Rattle.record.specs.declared.Refusal.the-variants.{Length}
 use Rattle.record.specs.declared.Test.{Test}
-use Rattle.record.specs.declared.Test.the-variants.{Passes, Fails}
 use Rattle.record.specs.Record.{nm, no-lit, most-args, most-blocks, id-bytes}
 use Rattle.record.specs.Shape.{shape-of}
-use Rattle.record.specs.Reader.{Res, got, fault, Reader, then, refuse, judge, give, _>>=_, here, num-at, field, text, if-there, times}
+use Rattle.record.specs.Reader.{Res, got, fault, Reader, then, refuse, give, _>>=_, here, num-at, field, text, if-there, times}
 use Rattle.record.specs.Tests.{any, at-most, below, length-test, version-test, names-test, type-test, text-length-test, text-test, saves-test, code-test, count-test, literal-test}
 use Rattle.record.specs.Read.{name-index, literal, arguments, operands, instr, block, name, names, length-field, end, contents, read}
 use Rattle.record.specs.Decode.{items, behind, two-on, index-from, number-from, operands-end, operands-from, instr-from, placed-from, instr-end, body-from, block-from, block-end, name-from, name-end, names-count, names-end, blocks-end, record-from}
+use Rattle.record.proofs.Fields.{field-tells, text-tells}
 
 -- ---- items in a row, by their number
 module _ {A : Type 0} (one : ℕ → A) (next : ℕ → ℕ) (d : A) where
@@ -51,28 +51,12 @@ pub record Decodes {A : Type 0} (r : Reader A) (s : List ℕ) (at : ℕ) (x : A)
 
 -- ---- combinators
 pub field-decodes : (w : ℕ) (test : ℕ → Test) (s : List ℕ) (at : ℕ) → Decodes (field w test) s at (num-at s at w) (at + w)
-unfolding field
-field-decodes w test s at = record { told = λ y q e. go (ltb (length s - at) w) (test (num-at s at w)) y q e }
-  where
-    go :
-        (b : Bool) (t : Test) (y q : ℕ) → refuse b Length at (judge t at (got (num-at s at w) (at + w))) ≡ got y q →
-        (y ≡ num-at s at w) × (q ≡ at + w)
-    go true t y q e = clash (cc)
-    go false Passes y q e = (cc, cc)
-    go false (Fails k) y q e = clash (cc)
+field-decodes w test s at = record { told = λ y q e. let t = field-tells w test s at y q e in (t .value, t .ends) }
 
 text-decodes :
     (n : ℕ) (test : List ℕ → Test) (s : List ℕ) (at : ℕ) →
     Decodes (text n test) s at (take n (drop at s)) (at + n)
-unfolding text
-text-decodes n test s at = record { told = λ y q e. go (ltb (length s - at) n) (take n (drop at s)) (test (take n (drop at s))) y q e }
-  where
-    go :
-        (b : Bool) (l : List ℕ) (t : Test) (y : List ℕ) (q : ℕ) → refuse b Length at (judge t at (got l (at + n))) ≡ got y q →
-        (y ≡ l) × (q ≡ at + n)
-    go true l t y q e = clash (cc)
-    go false l Passes y q e = (cc, cc)
-    go false l (Fails k) y q e = clash (cc)
+text-decodes n test s at = record { told = λ y q e. let t = text-tells n test s at y q e in (t .value, t .ends) }
 
 give-decodes : {A : Type 0} {x : A} {s : List ℕ} {at : ℕ} → Decodes (give x) s at x at
 unfolding give
@@ -197,7 +181,7 @@ contents-decode lim s =
     (times-decode _ s (block-from w s) (block-end w s) (λ left at. block-decodes lim w (names-count s) b s at) b (e + 2))
     give-decodes)))))
 
-length-decodes : (s : List ℕ) → Decodes length-field s 0 (num-at s 0 4) 4
+pub length-decodes : (s : List ℕ) → Decodes length-field s 0 (num-at s 0 4) 4
 unfolding length-field
 length-decodes s = record { told = field-decodes 4 (length-test (length s - 4)) s 0 .told }
 

@@ -1,22 +1,20 @@
 -- What every value satisfies that a reader gives from given bytes: the property `Gives` of readers, combinator by combinator.
 -- A field's number passes the field's test and, where the bytes are bytes, is below 256 to the power of the field's width.
-use Prim.Native.Nat.{ℕ, zero, suc, _+_, _-_, _*_, _^_, _<_, _≤_}
-use mathlib.Core.Path.{_≡_, refl, sym, ap, subst}
+use Prim.Native.Nat.{ℕ, zero, suc, _+_, _*_, _^_, _<_, _≤_}
+use mathlib.Core.Path.{_≡_, refl, sym, ap, subst, _∙_}
 use mathlib.Core.List.{List, [], _∷_, map}
 use mathlib.Core.Bool.{Bool, true, false}
 use native.Mathlib.Omega.{arith}
 use native.Mathlib.Nat.{mul-le-mul-right}
 use lib.ListN.{length, getD, take, drop, length-drop, length-map}
 use lib.Seq.{length-take-le}
-use lib.Dec.{ltb}
-use borrow.Author.Tests.{ltb-false}
 use Rattle.arith.proofs.Clash.{clash}
-use Rattle.record.specs.declared.Refusal.the-variants.{Length}
 use Rattle.record.specs.declared.Test.{Test}
-use Rattle.record.specs.declared.Test.the-variants.{Passes, Fails}
+use Rattle.record.specs.declared.Test.the-variants.{Passes}
 use Rattle.record.specs.Record.{Bytes}
-use Rattle.record.specs.Reader.{Res, got, fault, Reader, then, refuse, judge, give, _>>=_, here, num-at, field, text, if-there, times}
+use Rattle.record.specs.Reader.{Res, got, fault, Reader, then, give, _>>=_, here, num-at, field, text, if-there, times}
 use Rattle.record.specs.Good.{There, Each}
+use Rattle.record.proofs.Fields.{field-tells, text-tells}
 
 -- whatever r gives from s satisfies P
 pub record Gives (s : List ℕ) {A : Type 0} (r : Reader A) (P : A → Type 0) : Type 0 where
@@ -54,16 +52,13 @@ module _ {s : List ℕ} where
       (w : ℕ) (test : ℕ → Test) (P : ℕ → Type 0) →
       ((at : ℕ) → test (num-at s at w) ≡ Passes → P (num-at s at w)) →
       Gives s (field w test) P
-  unfolding field
   field-told w test P told =
-      record { gives = λ at x p e. go (num-at s at w) (at + w) at (told at) (ltb (length s - at) w) (test (num-at s at w)) refl x p e }
-    where
-      go :
-          (n o at : ℕ) → (test n ≡ Passes → P n) → (b : Bool) (t : Test) → test n ≡ t →
-          (x p : ℕ) → refuse b Length at (judge t at (got n o)) ≡ got x p → P x
-      go n o at told true t h x p e = clash (cc)
-      go n o at told false Passes h x p e = let j : n ≡ x = cc in subst P j (told h)
-      go n o at told false (Fails k) h x p e = clash (cc)
+      record {
+        gives =
+            λ at x p e.
+            let t = field-tells w test s at x p e in
+            subst P (sym (t .value)) (told at (ap test (sym (t .value)) ∙ t .passes));
+      }
 
   pub field-gives : (w : ℕ) (test : ℕ → Test) → Gives s (field w test) (λ x. test x ≡ Passes)
   field-gives w test = field-told w test (λ x. test x ≡ Passes) (λ at h. h)
@@ -76,19 +71,14 @@ module _ {s : List ℕ} where
       (n : ℕ) (test : List ℕ → Test) (P : List ℕ → Type 0) →
       ((at : ℕ) → length (take n (drop at s)) ≡ n → test (take n (drop at s)) ≡ Passes → P (take n (drop at s))) →
       Gives s (text n test) P
-  unfolding text
   text-told n test P told =
-      record { gives = λ at x p e. go at (ltb (length s - at) n) refl (test (take n (drop at s))) refl x p e }
-    where
-      go :
-          (at : ℕ) (b : Bool) → ltb (length s - at) n ≡ b → (t : Test) → test (take n (drop at s)) ≡ t → (x : List ℕ) (p : ℕ) →
-          refuse b Length at (judge t at (got (take n (drop at s)) (at + n))) ≡ got x p → P x
-      go at true l t h x p e = clash (cc)
-      go at false l Passes h x p e =
-          let j : take n (drop at s) ≡ x = cc in
-          let m : n ≤ length (drop at s) = omega (arith, ltb-false (length s - at) n l, length-drop at s) in
-          subst P j (told at (length-take-le n (drop at s) m) h)
-      go at false l (Fails k) h x p e = clash (cc)
+      record {
+        gives =
+            λ at x p e.
+            let t = text-tells n test s at x p e in
+            let l : length (take n (drop at s)) ≡ n = length-take-le n (drop at s) (omega (arith, t .room, length-drop at s)) in
+            subst P (sym (t .value)) (told at l (ap test (sym (t .value)) ∙ t .passes));
+      }
 
   pub text-gives : (n : ℕ) (test : List ℕ → Test) → Gives s (text n test) (λ t. (length t ≡ n) × (test t ≡ Passes))
   text-gives n test = text-told n test (λ t. (length t ≡ n) × (test t ≡ Passes)) (λ at l h. (l, h))

@@ -12,4 +12,8 @@ pub mod ReadFrom
 pub mod Sizes
 pub mod Longest
 pub mod Following
+pub mod Fields
 pub mod Decode
+pub mod Inside
+pub mod ReadSize
+pub mod Again

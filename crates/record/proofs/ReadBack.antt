@@ -1,7 +1,7 @@
 -- What is written reads back: the bytes of a good record are read as that record, whatever the limits it is good for.
 -- Each part by the laws of readers in Stands.
 use Prim.Native.Nat.{ℕ, suc, _+_, _-_}
-use mathlib.Core.Path.{_≡_, refl, sym, _∙_}
+use mathlib.Core.Path.{_≡_, refl, sym, _∙_, subst}
 use mathlib.Core.List.{List, [], _∷_, _++_, map, append-nil}
 use mathlib.Core.Bool.{true, false, not}
 use native.Mathlib.Omega.{arith}
@@ -19,6 +19,7 @@ use Rattle.record.specs.Read.{name-index, literal, arguments, operands, 
 use Rattle.record.specs.Write.{be, join, index-bytes, literal-bytes, argument-bytes, operand-bytes, instr-bytes, block-bytes, name-bytes, content-bytes, bytes}
 use Rattle.record.specs.Good.{IndexOk, LitOk, ArgsOk, OperandsOk, InstrOk, BlockOk, NameOk, NamesOk, RecordOk}
 use Rattle.record.proofs.Stands.{Reads, past, length-be, field-reads, text-reads, give-reads, bind-reads, last-reads, here-reads, there-reads, spread, times-reads, unspread, all-read}
+use Rattle.record.proofs.Sizes.{id-bytes-are}
 
 -- ---- an instruction
 index-reads : (N at : ℕ) (x : NameIx) → IndexOk N x → Reads (name-index N) at x (index-bytes x)
@@ -129,17 +130,21 @@ placed at r =
     }
 
 contents-read : (lim : Limits) (at : ℕ) (r : Record Instr) → RecordOk lim r → Reads (contents lim) at (placed at r) (content-bytes r)
-unfolding contents content-bytes id-bytes
+unfolding contents content-bytes
 contents-read lim at r h =
+    let N = length (r .names) in
+    let B = length (r .blocks) in
+    let w = id-bytes (r .version) in
+    let some : suc (w - 1) ≡ w = omega (arith, id-bytes-are (r .version)) in
     bind-reads _ _ (field-reads 0 _ (r .version) version-test (h .version))
     (bind-reads _ _ (field-reads 0 _ (r .args) (at-most most-args) (h .args))
     (bind-reads _ _ (field-reads 1 _ (length (r .names)) (names-test (lim .names) (r .args)) (h .size))
     (bind-reads _ _ (names-read lim [] _ (r .names) (h .names))
     (bind-reads _ _ (field-reads 1 _ (length (r .blocks)) (at-most most-blocks) (h .count))
     (bind-reads _ _
-    (times-reads (λ left. block lim 4 (length (r .names)) (length (r .blocks))) (settle 4) (block-bytes 4)
-    (λ left b. BlockOk lim (length (r .names)) (length (r .blocks)) b)
-    (λ left at b k. block-reads lim 3 _ _ at b k) _ (r .blocks) (h .blocks))
+    (times-reads (λ left. block lim w N B) (settle w) (block-bytes w) (λ left b. BlockOk lim N B b)
+    (λ left at b k. subst (λ (v : ℕ). Reads (block lim v N B) at (settle v at b) (block-bytes v b)) some (block-reads lim (w - 1) N B at b k))
+    _ (r .blocks) (h .blocks))
     give-reads)))))
 
 -- what is written of r is read as r

@@ -1,5 +1,5 @@
 -- How many bytes are written of each part of a record.
-use Prim.Native.Nat.{ℕ, _+_, _*_}
+use Prim.Native.Nat.{ℕ, _+_, _*_, _≤_}
 use mathlib.Core.Path.{_≡_, refl}
 use mathlib.Core.List.{List, [], _∷_, _++_, map}
 use mathlib.Core.Bool.{Bool, true, false, cond, not}
@@ -78,6 +78,11 @@ operands-size sh i =
       total-twos (be 2) (length-be 2) (i .blocks),
     )
     (omega arith)
+
+-- an id has four bytes or eight
+pub id-bytes-are : (v : ℕ) → (4 ≤ id-bytes v) × (id-bytes v ≤ 8)
+unfolding id-bytes
+id-bytes-are v = (omega arith, omega arith)
 
 -- w: the bytes of an id
 pub instr-size :

@@ -8,17 +8,14 @@ use native.Mathlib.Omega.{arith}
 use native.Mathlib.Nat.{add-zero, mod-eq-of-lt, div-eq-of-lt, mul-add-div-right, mul-add-mod-self-right}
 use lib.ListN.{length, getD, take, drop, take-append-drop, length-append, length-drop}
 use lib.Seq.{drop-cons, drop-drop, length-take-le}
-use lib.Dec.{ltb}
-use borrow.Author.Tests.{ltb-false}
 use Rattle.arith.proofs.Clash.{clash}
-use Rattle.record.specs.declared.Refusal.the-variants.{Length}
 use Rattle.record.specs.declared.Test.{Test}
-use Rattle.record.specs.declared.Test.the-variants.{Passes, Fails}
 use Rattle.record.specs.Record.{Bytes}
-use Rattle.record.specs.Reader.{Res, got, fault, Reader, then, refuse, judge, give, _>>=_, here, num-at, field, text, if-there, times}
+use Rattle.record.specs.Reader.{Res, got, fault, Reader, then, give, _>>=_, here, num-at, field, text, if-there, times}
 use Rattle.record.specs.Write.{be, join, when}
 use Rattle.record.proofs.Gives.{num-at-below}
 use Rattle.record.proofs.Stands.{length-be}
+use Rattle.record.proofs.Fields.{field-tells, text-tells}
 
 -- the bytes from `at` to p satisfy P
 pub record Between (s : List ℕ) (at p : ℕ) (P : List ℕ → Type 0) : Type 0 where
@@ -82,48 +79,40 @@ bind-got {A} {B} r f s at y p e = go (r s at) refl e
 module _ {s : List ℕ} where
   -- ---- fields
   pub field-takes : Bytes s → (w : ℕ) (test : ℕ → Test) → Takes s (field w test) (λ x b. be w x ≡ b)
-  unfolding field
   field-takes h w test =
-      record { takes = λ at x p e. go at (ltb (length s - at) w) refl (test (num-at s at w)) x p e }
-    where
-      go :
-          (at : ℕ) (b : Bool) → ltb (length s - at) w ≡ b → (t : Test) (x p : ℕ) →
-          refuse b Length at (judge t at (got (num-at s at w) (at + w))) ≡ got x p →
-          Between s at p (λ b. be w x ≡ b)
-      go at true l t x p e = clash (cc)
-      go at false l Passes x p e =
-          let j : num-at s at w ≡ x = cc in
-          let q : at + w ≡ p = cc in
-          record {
-            taken = be w x;
-            stand = be-num s h at w (ltb-false (length s - at) w l) ∙ λ i. be w (j i) ++ drop (q i) s;
-            ends = omega (arith, length-be w x);
-            told = refl;
-          }
-      go at false l (Fails k) x p e = clash (cc)
+      record {
+        takes =
+            λ at x p e.
+            let t = field-tells w test s at x p e in
+            record {
+              taken = be w x;
+              stand = be-num s h at w (t .room) ∙ λ i. be w (sym (t .value) i) ++ drop (sym (t .ends) i) s;
+              ends = omega (arith, t .ends, length-be w x);
+              told = refl;
+            };
+      }
+
+  -- the n bytes at a place
+  pub part-stands : (at n p : ℕ) → n ≤ length s - at → p ≡ at + n → Between s at p (λ b. (length b ≡ n) × (take n (drop at s) ≡ b))
+  part-stands at n p l q =
+      let k : length (take n (drop at s)) ≡ n = length-take-le n (drop at s) (omega (arith, l, length-drop at s)) in
+      record {
+        taken = take n (drop at s);
+        stand = sym (take-append-drop n (drop at s)) ∙ λ i. take n (drop at s) ++ (drop-drop n at s ∙ ap (λ (o : ℕ). drop o s) (sym q)) i;
+        ends = omega (arith, q, k);
+        told = (k, refl);
+      }
 
   pub text-takes : (n : ℕ) (test : List ℕ → Test) → Takes s (text n test) (λ t b. (length t ≡ n) × (t ≡ b))
-  unfolding text
   text-takes n test =
-      record { takes = λ at x p e. go at (ltb (length s - at) n) refl (test (take n (drop at s))) x p e }
-    where
-      go :
-          (at : ℕ) (b : Bool) → ltb (length s - at) n ≡ b → (t : Test) (x : List ℕ) (p : ℕ) →
-          refuse b Length at (judge t at (got (take n (drop at s)) (at + n))) ≡ got x p →
-          Between s at p (λ b. (length x ≡ n) × (x ≡ b))
-      go at true l t x p e = clash (cc)
-      go at false l Passes x p e =
-          let j : take n (drop at s) ≡ x = cc in
-          let q : at + n ≡ p = cc in
-          let m : n ≤ length (drop at s) = omega (arith, ltb-false (length s - at) n l, length-drop at s) in
-          let k : length x ≡ n = ap length (sym j) ∙ length-take-le n (drop at s) m in
-          record {
-            taken = x;
-            stand = sym (take-append-drop n (drop at s)) ∙ (λ i. j i ++ drop-drop n at s i) ∙ ap (λ (o : ℕ). x ++ drop o s) q;
-            ends = omega arith;
-            told = (k, refl);
-          }
-      go at false l (Fails k) x p e = clash (cc)
+      record {
+        takes =
+            λ at x p e.
+            let t = text-tells n test s at x p e in
+            let b = part-stands at n p (t .room) (t .ends) in
+            let same = t .value ∙ b .told .1 in
+            record { taken = b .taken; stand = b .stand; ends = b .ends; told = (ap length same ∙ b .told .0, same) };
+      }
 
   -- ---- combinators
   pub give-takes : {A : Type 0} {x : A} (P : A → List ℕ → Type 0) → P x [] → Takes s (give x) P

@@ -155,7 +155,7 @@ fn summary(c: &mut Compare, options: &Options, time: Duration) {
     println!("  {} blocks of up to three instructions over two names ({all})", t.small);
     println!("  {} random functions, {} damaged copies that are accepted", t.random, t.still_accepted);
     println!("  {} of these with a division on which the Rust panics: the same up to it, and it stays", t.divisions);
-    println!("  outputs one byte short, exact, longer and of seven times the input, between guard bytes; two name texts each");
+    println!("  outputs one byte short, exact, longer and of eight times the input, between guard bytes; two name texts each");
     println!("{} saves; instructions of each code, terminators last:", t.saves);
     let counts: Vec<String> =
         CODES.iter().map(|code| format!("{code}: {}", t.codes[usize::from(*code)])).collect();

@@ -78,7 +78,7 @@ pub fn compare(bytes: &[u8], out: &mut Guarded) -> Result<Same, String> {
     }
 }
 
-/// Outputs one byte short, exact, longer, and of seven times the input; all saves.
+/// Outputs one byte short, exact, longer, and of eight times the input; all saves.
 fn outputs(bytes: &[u8], rewriting: &[u8], out: &mut Guarded) -> Result<usize, String> {
     let need = rewriting.len();
     let short = out.lend(need - 1, |o| lvn::rewrite(bytes, o))?;
@@ -86,7 +86,7 @@ fn outputs(bytes: &[u8], rewriting: &[u8], out: &mut Guarded) -> Result<usize, S
         return Err(format!("an output one byte short: {short:?}, needed {need}"));
     }
     let saves = name_count(rewriting) - name_count(bytes);
-    for more in [0, 1 + need % 61, (7 * bytes.len()).saturating_sub(need)] {
+    for more in [0, 1 + need % 61, (8 * bytes.len()).saturating_sub(need)] {
         let answer = out.lend(need + more, |o| lvn::rewrite(bytes, o))?;
         if answer != Ok(Written { bytes: need, saves }) {
             return Err(format!("{answer:?}, by the Rust {need} bytes and {saves} saves"));

@@ -1,6 +1,6 @@
 use borrow.Author.Needs.{needs}
 use native.Mathlib.Omega.{arith}
-use Rattle.rewrite.proofs.Answers.{seven-times, written-result, written-output}
+use Rattle.rewrite.proofs.Answers.{eight-times, written-result, written-output}
 use Rattle.rewrite.proofs.rewrite_noting.Statement.{statement}
 use Rattle.rewrite.proofs.rewrite_noting.Tie as tie
 
@@ -10,7 +10,7 @@ put-once-requires c κs =
     let entry = test .before .before .before .before .before .before in
     let p = entry .pre in (
       record { reads = p .0 .reads; types = p .0 .types; heads = search needs; nums = search needs; names = p .1 },
-      (p .0 .places, seven-times (entry .args .out .now) (p .0 .reads) (test .if1 .taken)),
+      (p .0 .places, eight-times (entry .args .out .now) (p .0 .reads) (test .if1 .taken)),
     )
 
 returns : tie.Need-returns
@@ -20,7 +20,7 @@ returns c =
     let entry = test .before .before .before .before .before .before in
     let out = entry .args .out .now in
     let r = call .put-once .ensures in
-    let room = seven-times out (entry .pre .0 .reads) (test .if1 .taken) in (
+    let room = eight-times out (entry .pre .0 .reads) (test .if1 .taken) in (
       written-result _ _ (r .0) out (omega (arith, r .0, room)) (r .1 .0),
       written-output _ _ (r .0) out (omega (arith, r .0, room)) (r .1 .1),
     )

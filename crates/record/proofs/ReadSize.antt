@@ -5,22 +5,20 @@ use mathlib.Core.Path.{_≡_, refl, sym, ap, _∙_, subst}
 use mathlib.Core.List.{List, [], _∷_, _++_, map}
 use mathlib.Core.Bool.{Bool, true, false, cond, not}
 use native.Mathlib.Omega.{arith}
-use lib.ListN.{length, take, drop, length-append}
-use lib.Dec.{ltb, eqb}
-use Rattle.arith.proofs.Clash.{clash}
+use lib.ListN.{length, drop, length-append}
+use lib.Dec.{eqb}
 use Rattle.record.specs.declared.Shape.{Shape}
 use Rattle.record.specs.declared.Limits.{Limits}
-use Rattle.record.specs.declared.Refusal.the-variants.{Length}
 use Rattle.record.specs.declared.Test.{Test}
-use Rattle.record.specs.declared.Test.the-variants.{Passes, Fails}
 use Rattle.record.specs.Record.{nm, no-lit, Placed, Record, plain-block, plain, most-args, most-blocks, id-bytes, limits}
 use Rattle.record.specs.Shape.{shape-of}
 use Rattle.record.specs.Tests.{any, at-most, below, length-test, version-test, names-test, type-test, text-length-test, text-test, saves-test, code-test, count-test, literal-test}
-use Rattle.record.specs.Reader.{got, Reader, refuse, judge, give, num-at, field, text, if-there, times}
+use Rattle.record.specs.Reader.{got, Reader, give, field, text, if-there, times}
 use Rattle.record.specs.Read.{name-index, literal, arguments, operands, instr, block, name, names, length-field, end, contents, read}
 use Rattle.record.specs.Write.{instr-bytes, block-bytes, name-bytes, content-bytes, bytes}
+use Rattle.record.proofs.Fields.{field-tells}
 use Rattle.record.proofs.Sizes.{join-cons, join-nil, total, operand-size, instr-size, block-size, name-size, content-size, record-size}
-use Rattle.record.proofs.Takes.{Takes, Between, bind-got, text-takes, give-takes, bind-takes, last-takes, here-takes}
+use Rattle.record.proofs.Takes.{Takes, bind-got, part-stands, text-takes, give-takes, bind-takes, last-takes, here-takes}
 
 -- for what r gives from s it takes as many bytes as n says
 abbrev Spans : List ℕ → {A : Type 0} → Reader A → (A → ℕ) → Type 0
@@ -29,20 +27,14 @@ Spans s r n = Takes s r (λ x b. n x ≡ length b)
 module _ {s : List ℕ} where
   -- ---- combinators
   field-spans : (w : ℕ) (test : ℕ → Test) → Spans s (field w test) (λ x. w)
-  unfolding field text
-  field-spans w test = record { takes = λ at x p e. go at (ltb (length s - at) w) refl (test (num-at s at w)) x p e }
-    where
-      go :
-          (at : ℕ) (b : Bool) → ltb (length s - at) w ≡ b → (t : Test) (x p : ℕ) →
-          refuse b Length at (judge t at (got (num-at s at w) (at + w))) ≡ got x p →
-          Between s at p (λ b. w ≡ length b)
-      go at true l t x p e = clash (cc)
-      go at false l Passes x p e =
-          let q : at + w ≡ p = cc in
-          let there : text w (λ t. Passes) s at ≡ got (take w (drop at s)) p = rw l (ap (got (take w (drop at s))) q) in
-          let b = text-takes w (λ t. Passes) .takes at (take w (drop at s)) p there in
-          record { taken = b .taken; stand = b .stand; ends = b .ends; told = sym (b .told .0) ∙ ap length (b .told .1) }
-      go at false l (Fails k) x p e = clash (cc)
+  field-spans w test =
+      record {
+        takes =
+            λ at x p e.
+            let t = field-tells w test s at x p e in
+            let b = part-stands at w p (t .room) (t .ends) in
+            record { taken = b .taken; stand = b .stand; ends = b .ends; told = sym (b .told .0) };
+      }
 
   there-spans :
       {A : Type 0} (b : Bool) (d : A) {r : Reader A} (n : A → ℕ) →
