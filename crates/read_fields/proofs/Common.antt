@@ -1,6 +1,6 @@
 -- What walks of MIR by hand share: what is had of parameters at exit, and how a callee's answer is taken.
 --     all-handed, all-fit, all-go      parameters that are handed on for good: what is had of them at exit is what the contract says of them there
---     all-quiet        of parameters that a function leaves as they were the contract says nothing, which is had for nothing
+--     quiet, quiet-end, all-quiet      parameters that a function leaves as they were: nothing is bound of them at exit, and nothing is said
 --     answered         a call has returned u: its result r is owned, the tokens are back, and what the callee says of r is known
 --     by-walk          a function meets its contract, from a walk of its MIR in which one function is called
 -- The laws take `Given`.

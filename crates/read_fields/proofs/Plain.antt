@@ -1,6 +1,6 @@
--- A function over a slice and a number that makes a `Reader` of them and reads there meets its contract, whatever `new` and f it calls and
--- whatever fields the struct has: `new` has for good what the parameters own, and f what the reader owns. All that the proof knows of the
--- two is that they meet their contracts.
+-- A function that makes a `Reader` of its parameters and reads through it meets its contract, whatever it calls and whatever fields the
+-- struct has: `new` has for good what the parameters own, and f what the reader owns. All that the proof knows of the two functions called
+-- is that each meets its contract. In a local MIR erases the lifetime of the struct's type, so the reader is shown to have the type at `erased`.
 -- Assumes nothing.
 use mathlib.Core.Path.{_≡_, refl, subst}
 use mathlib.Core.List.{List, [], _∷_}

@@ -6,7 +6,8 @@
 --     Made             the contract of `Reader::new`
 --     thin f           the MIR of `fn g(self) -> Num { f(self.src, self.at) }`
 --     plain new f      the MIR of `fn g(s: &[u8], at: usize) -> Num { f(new(s, at)) }`
--- Assumes nothing: these are definitions.
+--     struct-at ℓ, laws-at ℓ       the struct as MIR has it where its lifetime is ℓ, and its laws.        row-types ℓ      the types of its fields there
+-- Assumes nothing: these are definitions, and what they compute to.
 use mathlib.Core.Path.{_≡_, refl}
 use Prim.Native.Nat.{ℕ, suc}
 use mathlib.Core.List.{List, [], _∷_}
@@ -120,7 +121,7 @@ module _ {M : Type 1} (𝓤 : URA M) where
     Made = tripleOf 𝓤 H A (made .signature) (closing 𝓤 H A made made-says)
 
 -- ---- MIR
--- the struct as a body that names its lifetime ℓ has it, and the types of its fields there
+-- the struct where its lifetime is ℓ: that of a signature, or `erased`
 abbrev pub struct-at : Lifetime → Lft → Declared
 struct-at ℓ κ = T.the-type (record { mir = ℓ; lft = κ })
 
