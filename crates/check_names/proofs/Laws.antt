@@ -6,8 +6,8 @@ use mathlib.Core.List.{List, [], _∷_, _++_}
 use mathlib.Core.Bool.{Bool, true, false, not, _&&_, _||_}
 use native.Mathlib.Omega.{arith}
 use lib.ListN.{length, getD, take, drop}
-use lib.Dec.{ltb, leb}
-use borrow.Author.Tests.{lt-ltb, le-ltb, lt-leb, le-leb, leb-true, ltb-false}
+use lib.Dec.{leb}
+use borrow.Author.Tests.{lt-ltb, le-ltb, lt-leb, le-leb, leb-true}
 use Rattle.arith.proofs.Clash.{clash}
 use Rattle.record.specs.declared.Limits.{Limits}
 use Rattle.record.specs.declared.Refusal.{Refusal}
@@ -17,13 +17,14 @@ use Rattle.record.specs.declared.Test.the-variants.{Passes, Fails}
 use Rattle.record.specs.declared.Next.{Next}
 use Rattle.record.specs.declared.Next.the-variants.{At, Refused}
 use Rattle.record.specs.Record.{Name}
-use Rattle.record.specs.Reader.{Res, got, fault, refuse, judge, give, num-at, field, text}
+use Rattle.record.specs.Reader.{got, fault, give, field, text}
 use Rattle.record.specs.Text.{well-formed, reserved, among}
 use Rattle.record.specs.Tests.{need, type-test, text-length-test, text-test}
 use Rattle.record.specs.Read.{name, names}
 use Rattle.record.specs.Answer.{verdict}
 use Rattle.record.proofs.Takes.{bind-got}
-use Rattle.record.proofs.Following.{read-no, read-is, stopped, made}
+use Rattle.record.proofs.Fields.{field-tells, text-tells}
+use Rattle.record.proofs.Following.{verdict-got, read-no, read-is, stopped, made}
 use Rattle.check_texts.specs.Names.{text-of, next-name, texts-from, behind}
 
 -- ---- a text's length
@@ -74,38 +75,15 @@ module _ (n : ℕ) (test : List ℕ → Test) (s : List ℕ) (t : ℕ) where
     text-fails k e = rw (le-ltb (length s - t) n h, e)
 
 -- ---- what a name that passes tells of its bytes
-module _ (w : ℕ) (test : ℕ → Test) (s : List ℕ) (at x p : ℕ) where
-  field-tells : field w test s at ≡ got x p → (x ≡ num-at s at w) × (p ≡ at + w) × (test x ≡ Passes)
-  unfolding field
-  field-tells e = go (ltb (length s - at) w) (test (num-at s at w)) refl e
-    where
-      go : (b : Bool) (t : Test) → test (num-at s at w) ≡ t → refuse b Length at (judge t at (got (num-at s at w) (at + w))) ≡ got x p →
-          (x ≡ num-at s at w) × (p ≡ at + w) × (test x ≡ Passes)
-      go true t h e = clash (cc)
-      go false Passes h e = let i : x ≡ num-at s at w = cc in (i, cc, ap test i ∙ h)
-      go false (Fails k) h e = clash (cc)
-
-module _ (n : ℕ) (test : List ℕ → Test) (s : List ℕ) (t : ℕ) (x : List ℕ) (p : ℕ) where
-  text-tells : 0 < n → text n test s t ≡ got x p → (x ≡ take n (drop t s)) × (p ≡ t + n) × (p ≤ length s)
-  unfolding text
-  text-tells z e = go (ltb (length s - t) n) (test (take n (drop t s))) refl e
-    where
-      go : (b : Bool) (v : Test) → ltb (length s - t) n ≡ b →
-          refuse b Length t (judge v t (got (take n (drop t s)) (t + n))) ≡ got x p →
-          (x ≡ take n (drop t s)) × (p ≡ t + n) × (p ≤ length s)
-      go true v h e = clash (cc)
-      go false Passes h e = let ends : p ≡ t + n = cc in (cc, ends, omega (arith, ltb-false (length s - t) n h))
-      go false (Fails k) h e = clash (cc)
-
 pub type-ends : (s : List ℕ) (p x q : ℕ) → field 1 type-test s p ≡ got x q → q ≡ p + 1
-type-ends s p x q e = field-tells 1 type-test s p x q e .1
+type-ends s p x q e = field-tells 1 type-test s p x q e .ends
 
 pub length-tells :
     (most : ℕ) (s : List ℕ) (q n t : ℕ) → field 1 (text-length-test most) s q ≡ got n t →
     (0 < n) × (t ≡ q + 1) × (n ≡ getD s q 0)
 length-tells most s q n t e =
     let f = field-tells 1 (text-length-test most) s q n t e in
-    (length-passes most n (f .2), f .1, f .0)
+    (length-passes most n (f .passes), f .ends, f .value)
 
 module _ (lim : Limits) (seen : List (List ℕ)) (s : List ℕ) (p : ℕ) where
   name-tells : (x : Name) (q : ℕ) → name lim seen s p ≡ got x q → (x .text ≡ text-of s p) × (q ≡ next-name s p) × (q ≤ length s)
@@ -116,12 +94,12 @@ module _ (lim : Limits) (seen : List (List ℕ)) (s : List ℕ) (p : ℕ) where
       let b = bind-got (field 1 (text-length-test (lim .text))) _ s (a .place) x q (a .second) in
       let fb = length-tells (lim .text) s (a .place) (b .value) (b .place) (b .first) in
       let c = bind-got (text (b .value) (text-test (lim .made) seen)) _ s (b .place) x q (b .second) in
-      let fc = text-tells (b .value) (text-test (lim .made) seen) s (b .place) (c .value) (c .place) (fb .0) (c .first) in
-      let n : b .value ≡ getD s (p + 1) 0 = fb .2 ∙ ap (λ (k : ℕ). getD s k 0) (fa .1) in
-      let t : b .place ≡ p + 1 + 1 = fb .1 ∙ ap (λ (k : ℕ). k + 1) (fa .1) in
+      let fc = text-tells (b .value) (text-test (lim .made) seen) s (b .place) (c .value) (c .place) (c .first) in
+      let n : b .value ≡ getD s (p + 1) 0 = fb .2 ∙ ap (λ (k : ℕ). getD s k 0) (fa .ends) in
+      let t : b .place ≡ p + 1 + 1 = fb .1 ∙ ap (λ (k : ℕ). k + 1) (fa .ends) in
       let same : x .text ≡ c .value = cc (c .second) in
       let ends : q ≡ c .place = cc (c .second) in
-      (same ∙ fc .0 ∙ (λ i. take (n i) (drop (t i) s)), ends ∙ fc .1 ∙ (λ i. t i + n i), omega (arith, fc .2))
+      (same ∙ fc .value ∙ (λ i. take (n i) (drop (t i) s)), ends ∙ fc .ends ∙ (λ i. t i + n i), omega (arith, ends, fc .ends, fc .room, fb .0))
 
   -- the name's tests one after the other
   pub type-refused : (k : Refusal) (o : ℕ) → field 1 type-test s p ≡ fault k o → Refused k o ≡ verdict (name lim seen s p)
@@ -153,10 +131,6 @@ unfolding texts-from behind
 texts-more s p zero = refl
 texts-more s p (suc k) = ap (_∷_ (text-of s p)) (texts-more s (next-name s p) k)
 
-passes : {A : Type 0} (z : Res A) (q : ℕ) → verdict z ≡ At q → (x : A) × (z ≡ got x q)
-passes (got x p) q e = let j : p ≡ q = cc in (x, ap (got x) j)
-passes (fault k o) q e = clash (cc)
-
 module _ (lim : Limits) (seen : List (List ℕ)) (s : List ℕ) (p : ℕ) where
   one-stopped :
       (n : ℕ) (k : Refusal) (o : ℕ) → verdict (name lim seen s p) ≡ Refused k o →
@@ -171,7 +145,7 @@ module _ (lim : Limits) (seen : List (List ℕ)) (s : List ℕ) (p : ℕ) where
       × (q ≤ length s)
   unfolding names
   one-went n q e =
-      let g = passes (name lim seen s p) q e in
+      let g = verdict-got (name lim seen s p) q e in
       let x = g .0 in
       let f = name-tells lim seen s p x q (g .1) in (
         f .1,

@@ -1,4 +1,4 @@
--- The blocks of an accepted record: what the code reads again is what was accepted, and what it then has is the rewriting's.
+-- What the code has behind the last block of a record is what the rewriting has.
 use Prim.Native.Nat.{ℕ, _+_, _<_, _≤_}
 use mathlib.Core.Path.{_≡_, sym, ap, _∙_, subst}
 use mathlib.Core.List.{List, map}

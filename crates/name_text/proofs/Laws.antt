@@ -7,7 +7,7 @@ use mathlib.Core.Bool.{Bool, true, false, cond}
 use native.Mathlib.Omega.{arith}
 use lib.ListN.{length, getD, take, drop}
 use lib.Dec.{ltb, eqb}
-use borrow.Author.Tests.{lt-ltb, le-ltb, lt-leb, le-leb, eq-eqb, ne-eqb, ltb-false}
+use borrow.Author.Tests.{lt-ltb, le-ltb, lt-leb, le-leb, eq-eqb, ne-eqb}
 use Rattle.arith.proofs.Clash.{clash}
 use Rattle.record.specs.declared.Refusal.{Refusal}
 use Rattle.record.specs.declared.Refusal.the-variants.{Length, Name}
@@ -18,14 +18,14 @@ use Rattle.record.specs.declared.Checked.the-variants as checks
 use Rattle.record.specs.Record.{Placed, Record, limits}
 use Rattle.record.specs.Reader.{Res, got, fault, refuse, give, here, num-at, field, text, times}
 use Rattle.record.specs.Tests.{any}
-use Rattle.record.specs.Read.{read}
 use Rattle.record.specs.Typing.{accept}
 use Rattle.record.specs.Answer.{verdict, checked, checked-as}
 use Rattle.record.specs.Decode.{behind, name-end, record-from}
 use Rattle.record.proofs.Takes.{bind-got}
 use Rattle.record.proofs.Decode.{read-decodes}
 use Rattle.record.proofs.Typed.{accept-typed}
-use Rattle.record.proofs.Following.{read-no, read-is, here-is, made}
+use Rattle.record.proofs.Fields.{field-tells, text-tells}
+use Rattle.record.proofs.Following.{verdict-got, verdict-fault, read-no, read-is, here-is, made}
 use Rattle.numbering.specs.declared.Named.{Named}
 use Rattle.numbering.specs.declared.Named.the-variants.{Text, Refused, Mismatch}
 use Rattle.numbering.specs.NameText.{Part, NameText, name-part, parts-of, nth-part, choose, from-parts, refused, headed, with-input, name-text, bytes-of}
@@ -61,26 +61,6 @@ module _ (b : Bool) (s : List ℕ) (p : ℕ) where
         (h ∙ text-skipped n s t ∙ sym (made (text n (λ t. Passes)) (λ t′. record { rewriting = b; from = t; count = n }) s t))))
 
 -- ---- what is told by parts that were read
-module _ (w : ℕ) (s : List ℕ) (at x p : ℕ) where
-  field-tells : field w any s at ≡ got x p → (x ≡ num-at s at w) × (p ≡ at + w) × (w ≤ length s - at)
-  unfolding field any
-  field-tells e = go (ltb (length s - at) w) refl e
-    where
-      go : (b : Bool) → ltb (length s - at) w ≡ b → refuse b Length at (got (num-at s at w) (at + w)) ≡ got x p →
-          (x ≡ num-at s at w) × (p ≡ at + w) × (w ≤ length s - at)
-      go true h e = clash (cc)
-      go false h e = (cc, cc, ltb-false (length s - at) w h)
-
-module _ (n : ℕ) (s : List ℕ) (t : ℕ) (x : List ℕ) (p : ℕ) where
-  text-tells : text n (λ t. Passes) s t ≡ got x p → (p ≡ t + n) × (n ≤ length s - t)
-  unfolding text
-  text-tells e = go (ltb (length s - t) n) refl e
-    where
-      go : (b : Bool) → ltb (length s - t) n ≡ b → refuse b Length t (got (take n (drop t s)) (t + n)) ≡ got x p →
-          (p ≡ t + n) × (n ≤ length s - t)
-      go true h e = clash (cc)
-      go false h e = (cc, ltb-false (length s - t) n h)
-
 -- the part of the name at p lies within the record
 abbrev inside : List ℕ → ℕ → Type 0
 inside s p = (p + 1 + 1 + num-at s (p + 1) 1 ≤ length s)
@@ -90,20 +70,20 @@ module _ (b : Bool) (s : List ℕ) where
   unfolding name-part give name-end here
   name-tells p x q e =
       let a = bind-got (field 1 any) _ s p x q e in
-      let fa = field-tells 1 s p (a .value) (a .place) (a .first) in
+      let fa = field-tells 1 any s p (a .value) (a .place) (a .first) in
       let c = bind-got (field 1 any) _ s (a .place) x q (a .second) in
-      let fc = field-tells 1 s (a .place) (c .value) (c .place) (c .first) in
+      let fc = field-tells 1 any s (a .place) (c .value) (c .place) (c .first) in
       let h = bind-got here _ s (c .place) x q (c .second) in
       let eh : (h .value ≡ c .place) × (h .place ≡ c .place) = (cc (h .first), cc (h .first)) in
       let d = bind-got (text (c .value) (λ t. Passes)) _ s (h .place) x q (h .second) in
-      let fd = text-tells (c .value) s (h .place) (d .value) (d .place) (d .first) in
-      let n : c .value ≡ num-at s (p + 1) 1 = fc .0 ∙ ap (λ (k : ℕ). num-at s k 1) (fa .1) in
-      let t : c .place ≡ p + 1 + 1 = fc .1 ∙ ap (λ (k : ℕ). k + 1) (fa .1) in
+      let fd = text-tells (c .value) (λ t. Passes) s (h .place) (d .value) (d .place) (d .first) in
+      let n : c .value ≡ num-at s (p + 1) 1 = fc .value ∙ ap (λ (k : ℕ). num-at s k 1) (fa .ends) in
+      let t : c .place ≡ p + 1 + 1 = fc .ends ∙ ap (λ (k : ℕ). k + 1) (fa .ends) in
       let same : x ≡ record { rewriting = b; from = h .value; count = c .value } = cc (d .second) in
       let ends : q ≡ d .place = cc (d .second) in (
         same ∙ (λ i. record { rewriting = b; from = (eh .0 ∙ t) i; count = n i }),
-        ends ∙ fd .0 ∙ (λ i. (eh .1 ∙ t) i + n i),
-        omega (arith, fd .1, n, eh .1, t, fc .2, fa .1),
+        ends ∙ fd .ends ∙ (λ i. (eh .1 ∙ t) i + n i),
+        omega (arith, fd .room, n, eh .1, t, fc .room, fa .ends),
       )
 
   -- n parts from p on
@@ -136,14 +116,6 @@ module _ (b : Bool) (s : List ℕ) where
         many = ap (λ (l : List Part). length l) same ∙ ap suc (t .many);
         each = each-part n p ps (a .value) (c .value) (a .place) same fa t;
       }
-
-passes : {A : Type 0} (z : Res A) (q : ℕ) → verdict z ≡ next.At q → (x : A) × (z ≡ got x q)
-passes (got x p) q e = let j : p ≡ q = cc in (x, ap (got x) j)
-passes (fault k o) q e = clash (cc)
-
-faults : {A : Type 0} (z : Res A) (k : Refusal) (o : ℕ) → verdict z ≡ next.Refused k o → z ≡ fault k o
-faults (got x p) k o e = clash (cc)
-faults (fault k′ o′) k o e = cc
 
 -- ---- a part within its record
 abbrev pub lies : List ℕ → List ℕ → NameText → Type 0
@@ -180,10 +152,10 @@ module _ (a r : List ℕ) (i n m p q : ℕ) (t : NameText) (en : n ≡ num-at a 
   whole = from-parts i (parts-of false a) (parts-of true r)
 
   ga : (ps : List Part) × (parts-of false a ≡ got ps p)
-  ga = passes (parts-of false a) p ea
+  ga = verdict-got (parts-of false a) p ea
 
   gr : (qs : List Part) × (parts-of true r ≡ got qs q)
-  gr = passes (parts-of true r) q er
+  gr = verdict-got (parts-of true r) q er
 
   ta : Told false a (num-at a 6 2) 8 (ga .0)
   ta = parts-tell false a (num-at a 6 2) 8 (ga .0) p (ga .1)
@@ -235,12 +207,12 @@ module _ (a r : List ℕ) (i n m p q : ℕ) (t : NameText) (en : n ≡ num-at a 
 module _ (i : ℕ) (x y : Res (List Part)) where
   pub first-past : (k : Refusal) (o : ℕ) → verdict x ≡ next.Refused k o → refused Mismatch ≡ from-parts i x y
   unfolding from-parts
-  first-past k o e = sym (ap (λ (z : Res (List Part)). from-parts i z y) (faults x k o e))
+  first-past k o e = sym (ap (λ (z : Res (List Part)). from-parts i z y) (verdict-fault x k o e))
 
   pub second-past :
       (p : ℕ) (k : Refusal) (o : ℕ) → verdict x ≡ next.At p → verdict y ≡ next.Refused k o → refused Mismatch ≡ from-parts i x y
   unfolding from-parts
-  second-past p k o e f = let g = passes x p e in sym (λ j. from-parts i (g .1 j) (faults y k o f j))
+  second-past p k o e f = let g = verdict-got x p e in sym (λ j. from-parts i (g .1 j) (verdict-fault y k o f j))
 
 -- ---- the head
 module _ (version : ℕ) (s : List ℕ) where

@@ -1,7 +1,7 @@
 -- What the rewriting of an instruction and of a block writes: at most one save before each instruction, and the instruction under its own
 -- id and dest. The saves make the names N + K, N + K + 1, .. in order. Only the definitions of the rewriting are used.
 use Prim.Native.Nat.{ℕ, suc, _+_, _<_}
-use mathlib.Core.Path.{_≡_, refl, sym, _∙_, subst}
+use mathlib.Core.Path.{_≡_, refl, sym, _∙_, subst, ap}
 use mathlib.Core.Bool.{Bool, true, false, true≢false}
 use mathlib.Core.List.{List, [], _∷_, _++_}
 use mathlib.Core.Option.{Option, none, some}
@@ -10,39 +10,26 @@ use borrow.Author.Tests.{le-leb, lt-leb}
 use Rattle.arith.specs.declared.One.{One}
 use Rattle.arith.specs.declared.One.the-variants.{Not, Id}
 use Rattle.arith.specs.declared.Two.{Two}
-use Rattle.arith.specs.declared.Two.the-variants.{Add, Sub, Mul, Div, Eq, Lt, Gt, Le, Ge, And, Or, PtrAdd}
 use Rattle.arith.specs.Map.{pick}
 use Rattle.arith.specs.Code.{code1, code2}
 use Rattle.arith.specs.Value.{Val}
 use Rattle.arith.specs.Operation.{Expr, constant, one, two}
 use Rattle.record.specs.declared.NameIx.{NameIx}
 use Rattle.record.specs.Record.{nm, NameIx-discrete, no-lit, Instr, arg}
+use Rattle.record.specs.declared.Shape.{Shape}
 use Rattle.record.specs.Shape.{shape-of}
 use Rattle.record.specs.Form.{Form, pure, new, effect, return, nop, jump, branch, form}
+use Rattle.record.proofs.Form.{one-shape, two-shape}
 use Rattle.numbering.specs.declared.ValNum.{ValNum}
 use Rattle.numbering.specs.State.{State, new-number, update-env, rehome, see-at, see, gen-new-vals, known}
 use Rattle.numbering.specs.Number.{reads, make-val, make-const-instr, make-id-instr, val-to-instr, rewrite-instr, Saved, no-save, save, save-at, handle-overwrite, get-val-num, Emitted, unchanged, number-dest, place, by-form, instr-lvn, block-lvn, is-save, count-saves}
 
 -- ---- codes of what is written
 code1-dest : (o : One) → shape-of (code1 o) .dest ≡ true
-unfolding code1 shape-of
-code1-dest Not = refl
-code1-dest Id = refl
+code1-dest o = ap (λ (sh : Shape). sh .dest) (one-shape o)
 
 code2-dest : (o : Two) → shape-of (code2 o) .dest ≡ true
-unfolding code2 shape-of
-code2-dest Add = refl
-code2-dest Sub = refl
-code2-dest Mul = refl
-code2-dest Div = refl
-code2-dest Eq = refl
-code2-dest Lt = refl
-code2-dest Gt = refl
-code2-dest Le = refl
-code2-dest Ge = refl
-code2-dest And = refl
-code2-dest Or = refl
-code2-dest PtrAdd = refl
+code2-dest o = ap (λ (sh : Shape). sh .dest) (two-shape o)
 
 const-dest : shape-of 0 .dest ≡ true
 unfolding shape-of

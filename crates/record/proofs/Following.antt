@@ -23,6 +23,15 @@ use Rattle.record.specs.Read.{name-index, operands}
 use Rattle.record.specs.Answer.{verdict}
 use Rattle.record.proofs.Tests.{and-left, and-right}
 
+-- ---- a verdict, back to what was read
+pub verdict-got : {A : Type 0} (z : Res A) (q : ℕ) → verdict z ≡ At q → (x : A) × (z ≡ got x q)
+verdict-got (got x p) q e = let j : p ≡ q = cc in (x, ap (got x) j)
+verdict-got (fault k o) q e = clash (cc)
+
+pub verdict-fault : {A : Type 0} (z : Res A) (k : Refusal) (o : ℕ) → verdict z ≡ Refused k o → z ≡ fault k o
+verdict-fault (got x p) k o e = clash (cc)
+verdict-fault (fault k′ o′) k o e = cc
+
 -- ---- a condition
 -- how the code takes `a || b` and `a && b` apart: its result r is a where that settles it, and b where not
 module _ (a b r : Bool) where
@@ -86,19 +95,13 @@ module _ {A B : Type 0} (r : Reader A) (f : A → Reader B) (s : List ℕ) (at :
   -- by the verdict alone
   pub stopped : (k : Refusal) (o : ℕ) → verdict (r s at) ≡ Refused k o → Refused k o ≡ verdict ((r >>= f) s at)
   unfolding _>>=_
-  stopped k o e = go (r s at) e
-    where
-      go : (z : Res A) → verdict z ≡ Refused k o → Refused k o ≡ verdict (then z (λ x p. f x s p))
-      go (got x p) h = clash (cc)
-      go (fault l q) h = sym h
+  stopped k o e = sym (ap (λ (z : Res A). verdict (then z (λ x p. f x s p))) (verdict-fault (r s at) k o e))
 
   pub passed : (p : ℕ) (v : Next) → verdict (r s at) ≡ At p → ((x : A) → v ≡ verdict (f x s p)) → v ≡ verdict ((r >>= f) s at)
   unfolding _>>=_
-  passed p v e h = go (r s at) e
-    where
-      go : (z : Res A) → verdict z ≡ At p → v ≡ verdict (then z (λ x p. f x s p))
-      go (got x q) k = let j : q ≡ p = cc in h x ∙ ap (λ (n : ℕ). verdict (f x s n)) (sym j)
-      go (fault l q) k = clash (cc)
+  passed p v e h =
+      let (x, g) = verdict-got (r s at) p e in
+      h x ∙ sym (ap (λ (z : Res A). verdict (then z (λ x p. f x s p))) g)
 
 -- the place itself
 pub here-is : {B : Type 0} (f : ℕ → Reader B) (s : List ℕ) (at : ℕ) (v : Next) →

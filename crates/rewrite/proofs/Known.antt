@@ -1,4 +1,4 @@
--- What the code knows of a record that is read without a fault: its counts, what numbering its blocks asks and what it then has.
+-- What the code knows of a record that is read without a fault: what numbering its blocks asks, and what it then has.
 use Prim.Native.Nat.{ℕ, _+_, _-_, _*_, _<_, _≤_}
 use mathlib.Core.Path.{_≡_, refl, sym, ap, _∙_, subst}
 use mathlib.Core.List.{List, [], _∷_, _++_, map}
