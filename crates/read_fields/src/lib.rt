@@ -3,12 +3,14 @@ use record::Next;
 use record::Refusal;
 use record::Test;
 ghost use mathlib.Core.Path.{_≡_};
-ghost use Prim.Native.Nat.{_+_, _-_, _<_};
+ghost use mathlib.Core.Bool.{cond};
+ghost use Prim.Native.Nat.{_+_, _-_, _<_, _≤_};
 ghost use lib.ListN.{length, getD};
 ghost use Rattle.record.specs.Reader.{got, num-at, field, judge, times};
 ghost use Rattle.record.specs.Tests.{need, any, at-most, below};
 ghost use Rattle.record.specs.Answer.{verdict};
 ghost use Rattle.read_fields.specs.Answer.{res};
+ghost use Rattle.read_fields.specs.Places.{places};
 
 // A field's number and the place behind it, or the reason and offset of its refusal.
 pub enum Num {
@@ -192,7 +194,7 @@ pub fn byte_or(s: &[u8], at: usize) -> u64
 
 // The number of two bytes; bytes past the end count as 0. The last of them has a place.
 pub fn be16(s: &[u8], at: usize) -> u64
-    requires { ⌜ at + 1 < 18446744073709551616 ⌝ }
+    requires { ⌜ at + 1 < places ⌝ }
     ensures { λ r. ⌜ (r ≡ num-at (now (s .entry)) at 2) × (r < 65536) ⌝ }
 {
     match two_at(s, at) {
@@ -203,7 +205,7 @@ pub fn be16(s: &[u8], at: usize) -> u64
 
 // The number of four bytes, by halves where it runs past the end.
 pub fn be32(s: &[u8], at: usize) -> u64
-    requires { ⌜ at + 3 < 18446744073709551616 ⌝ }
+    requires { ⌜ at + 3 < places ⌝ }
     ensures { λ r. ⌜ (r ≡ num-at (now (s .entry)) at 4) × (r < 4294967296) ⌝ }
 {
     match four_at(s, at) {
@@ -214,13 +216,22 @@ pub fn be32(s: &[u8], at: usize) -> u64
 
 // The number of eight bytes, by halves where it runs past the end.
 pub fn be64(s: &[u8], at: usize) -> u64
-    requires { ⌜ at + 7 < 18446744073709551616 ⌝ }
+    requires { ⌜ at + 7 < places ⌝ }
     ensures { λ r. ⌜ r ≡ num-at (now (s .entry)) at 8 ⌝ }
 {
     match eight_at(s, at) {
         Num::Is(x, _) => x,
         Num::No(_, _) => be32(s, at) * 4294967296 + be32(s, at + 4),
     }
+}
+
+// ---- places
+// The place behind n bytes that are there or not.
+pub fn past_if(there: bool, at: usize, n: usize) -> usize
+    requires { ⌜ at + n < places ⌝ }
+    ensures { λ r. ⌜ (r ≡ cond there (at + n) at) × (r ≤ at + n) ⌝ }
+{
+    if there { at + n } else { at }
 }
 
 // ---- tests of a number

@@ -130,17 +130,6 @@ fn word_at(s: &[u8], at: usize, w: usize) -> u64
     read_fields::be32(s, at)
 }
 
-// The place behind a part of n bytes, where it is there.
-fn past(at: usize, there: bool, n: usize) -> usize
-    requires { ⌜ (at < 8589934592) × (n < 65536) ⌝ }
-    ensures { λ r. ⌜ (r ≡ cond there (at + n) at) × (r ≤ at + n) ⌝ }
-{
-    if there {
-        return at + n;
-    }
-    at
-}
-
 // A number of two bytes, and one of one byte, where it is there; else 0.
 fn two_at(s: &[u8], at: usize, there: bool) -> u16
     requires { ⌜ at < 8589934592 ⌝ }
@@ -202,11 +191,11 @@ fn operands_at(s: &[u8], at: usize, sh: Shape, id: u64, code: u8) -> Read
     requires { ⌜ (at < 8589930000) × ((sh ≡ shape-of code) × Readable (operands-from sh (now s) at id code)) ⌝ }
     ensures { λ r. ⌜ OperandsAgain sh (now (s .entry)) at id code r ⌝ }
 {
-    let lit = past(at, sh.dest, 2);
-    let count = past(lit, sh.literal, 9);
+    let lit = read_fields::past_if(sh.dest, at, 2);
+    let count = read_fields::past_if(sh.literal, lit, 9);
     let n = one_at(s, count, !sh.literal);
-    let callee = past(count, !sh.literal, 1 + 2 * (n as usize));
-    let blocks = past(callee, sh.callee, 2);
+    let callee = read_fields::past_if(!sh.literal, count, 1 + 2 * (n as usize));
+    let blocks = read_fields::past_if(sh.callee, callee, 2);
     Read {
         instr: Instruction {
             id: id,

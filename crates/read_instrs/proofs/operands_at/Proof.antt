@@ -9,37 +9,37 @@ use Rattle.read_instrs.proofs.operands_at.Statement.{statement}
 use Rattle.read_instrs.proofs.operands_at.Tie as tie
 
 places :
-    (c : tie.After-past4) →
+    (c : tie.After-past-if4) →
     let a = c .before .before .before .before .before .before .before .before .args in
     let c3 = c .before .before .before in
     let c5 = c3 .before .before in
-    Places (a .sh) (a .s .now) (a .at) (c5 .before .past .result) (c5 .past2 .result) (c3 .one-at .result) (c .before .past3 .result) (c .past4 .result)
+    Places (a .sh) (a .s .now) (a .at) (c5 .before .past-if .result) (c5 .past-if2 .result) (c3 .one-at .result) (c .before .past-if3 .result) (c .past-if4 .result)
 places c =
     let c3 = c .before .before .before in
     let c5 = c3 .before .before in
     let c6 = c5 .before in
     record {
-      lit-is = c6 .past .ensures .0;
-      count-is = c5 .past2 .ensures .0;
+      lit-is = c6 .past-if .ensures .0;
+      count-is = c5 .past-if2 .ensures .0;
       n-is = c3 .one-at .ensures;
-      callee-is = c .before .past3 .ensures .0;
-      blocks-is = c .past4 .ensures .0;
+      callee-is = c .before .past-if3 .ensures .0;
+      blocks-is = c .past-if4 .ensures .0;
     }
 
 -- at most eight arguments
-few : (c : tie.After-past4) → c .before .before .before .one-at .result ≤ 8
+few : (c : tie.After-past-if4) → c .before .before .before .one-at .result ≤ 8
 few c =
     let c8 = c .before .before .before .before .before .before .before .before in
     count-few (places c) (c8 .args .id) (c8 .args .code) (c8 .pre .1 .1)
 
 -- the places, each from the one before
-near : (c : tie.After-past4) → c .past4 .result ≤ c .before .before .before .before .before .before .before .before .args .at + 30
+near : (c : tie.After-past-if4) → c .past-if4 .result ≤ c .before .before .before .before .before .before .before .before .args .at + 30
 near c =
     let c5 = c .before .before .before .before .before in
     let c6 = c5 .before in
-    omega (arith, few c, c6 .past .ensures .1, c5 .past2 .ensures .1, c .before .past3 .ensures .1, c .past4 .ensures .1)
+    omega (arith, few c, c6 .past-if .ensures .1, c5 .past-if2 .ensures .1, c .before .past-if3 .ensures .1, c .past-if4 .ensures .1)
 
-two-blocks : (c : tie.After-past4) → c .before .before .before .before .before .before .before .before .args .sh .blocks ≤ 2
+two-blocks : (c : tie.After-past-if4) → c .before .before .before .before .before .before .before .before .args .sh .blocks ≤ 2
 two-blocks c =
     let c8 = c .before .before .before .before .before .before .before .before in
     rw (c8 .pre .1 .0) (shape-blocks (c8 .args .code))
@@ -48,7 +48,7 @@ literal-at-requires : tie.Need-literal-at-requires
 literal-at-requires c κs =
     let c8 = c .before .before .before .before .before .before .before .before in
     let a = c8 .before .before in
-    (omega (arith, a .pre .0, c8 .past .ensures .1), literal-ok (places (c .before .before)) (a .args .id) (a .args .code) (a .pre .1 .1))
+    (omega (arith, a .pre .0, c8 .past-if .ensures .1), literal-ok (places (c .before .before)) (a .args .id) (a .args .code) (a .pre .1 .1))
 
 args-at-requires : tie.Need-args-at-requires
 args-at-requires c κs =
@@ -56,7 +56,7 @@ args-at-requires c κs =
     let c8 = c3 .before .before .before .before .before in
     let c9 = c8 .before in
     let c11 = c9 .before .before in
-    (omega (arith, c11 .pre .0, c9 .past .ensures .1, c8 .past2 .ensures .1), few c3)
+    (omega (arith, c11 .pre .0, c9 .past-if .ensures .1, c8 .past-if2 .ensures .1), few c3)
 
 blocks-at-requires : tie.Need-blocks-at-requires
 blocks-at-requires c κs =
