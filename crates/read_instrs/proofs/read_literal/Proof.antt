@@ -2,8 +2,8 @@ use mathlib.Core.Path.{_∙_}
 use borrow.Author.Needs.{needs}
 use Rattle.record.specs.Answer.{literal-of}
 use Rattle.codes.proofs.Literal.{lit-same}
-use Rattle.read_instrs.proofs.literal_at.Statement.{statement}
-use Rattle.read_instrs.proofs.literal_at.Tie as tie
+use Rattle.read_instrs.proofs.read_literal.Statement.{statement}
+use Rattle.read_instrs.proofs.read_literal.Tie as tie
 
 literal-of-requires : tie.Need-literal-of-requires
 literal-of-requires c κs =
@@ -19,7 +19,7 @@ returns-2 : tie.Need-returns-2
 unfolding literal-of
 returns-2 c = rw (c .if1 .left)
 
-pub literal-at-spec : {M : Type 1} → statement M
-literal-at-spec =
+pub read-literal-spec : {M : Type 1} → statement M
+read-literal-spec =
     tie.close
     (tie.spec (λ c κs. search needs) (λ c. search needs) (λ c κs. search needs) literal-of-requires returns returns-2)

@@ -5,8 +5,8 @@ use lib.ListN.{length, take, length-set}
 use borrow.Author.Needs.{needs}
 use Rattle.record.specs.Decode.{items, two-on, number-from}
 use Rattle.read_instrs.proofs.Rows.{items-set}
-use Rattle.read_instrs.proofs.args_at.Statement.{statement}
-use Rattle.read_instrs.proofs.args_at.Tie as tie
+use Rattle.read_instrs.proofs.read_args.Statement.{statement}
+use Rattle.read_instrs.proofs.read_args.Tie as tie
 
 abbrev Inv-loop : tie.InvT-loop
 Inv-loop s at n m args₀ p₀ i₀ args p i =
@@ -47,8 +47,8 @@ returns c =
     let h : take (w .loop .i) (w .loop .args) ≡ items (number-from (a .s .now)) two-on (a .at) (w .loop .i) = w .loop .inv .1 .1 .1 in
     rw e at h
 
-pub args-at-spec : {M : Type 1} → statement M
-args-at-spec =
+pub read-args-spec : {M : Type 1} → statement M
+read-args-spec =
     tie.close
     (tie.spec Inv-loop μ-loop loop-holds (λ c κs. search needs) (λ c. search needs) (λ c. search needs)
     (λ c. search needs) (λ c. search needs) (λ c. search needs) (λ c. search needs) loop-again returns)

@@ -3,9 +3,9 @@ use native.Mathlib.Omega.{arith}
 use borrow.Author.Needs.{needs}
 use Rattle.record.specs.Shape.{shape-of}
 use Rattle.write_bytes.proofs.Numbers.{width-most}
-use Rattle.read_instrs.proofs.Written.{instr-wrote}
-use Rattle.read_instrs.proofs.put_instr.Statement.{statement}
-use Rattle.read_instrs.proofs.put_instr.Tie as tie
+use Rattle.write_instrs.proofs.Written.{instr-wrote}
+use Rattle.write_instrs.proofs.put_instr.Statement.{statement}
+use Rattle.write_instrs.proofs.put_instr.Tie as tie
 
 add-put-u8 : tie.Need-add-put-u8
 add-put-u8 c =

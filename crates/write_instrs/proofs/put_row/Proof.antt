@@ -6,9 +6,9 @@ use borrow.Author.Needs.{needs}
 use Rattle.record.specs.Write.{be, join}
 use Rattle.write_bytes.proofs.Parts.{part-past, part-none}
 use Rattle.write_bytes.proofs.Wrote.{wrote-number, Rest, rest-all, rest-less, rest-none}
-use Rattle.read_instrs.proofs.Written.{row-less}
-use Rattle.read_instrs.proofs.put_row.Statement.{statement}
-use Rattle.read_instrs.proofs.put_row.Tie as tie
+use Rattle.write_instrs.proofs.Written.{row-less}
+use Rattle.write_instrs.proofs.put_row.Statement.{statement}
+use Rattle.write_instrs.proofs.put_row.Tie as tie
 
 abbrev Inv-loop : tie.InvT-loop
 Inv-loop out₀ at row n p₀ i₀ left₀ out p i left =

@@ -2,13 +2,13 @@ use Prim.Native.Nat.{_≤_}
 use native.Mathlib.Omega.{arith}
 use borrow.Author.Needs.{needs}
 use Rattle.record.specs.View.{code-of}
-use Rattle.read_instrs.proofs.Shapes.{shape-blocks}
-use Rattle.read_instrs.proofs.Written.{operands-wrote}
-use Rattle.read_instrs.proofs.put_operands.Statement.{statement}
-use Rattle.read_instrs.proofs.put_operands.Tie as tie
+use Rattle.read_shapes.proofs.Bounds.{shape-blocks}
+use Rattle.write_instrs.proofs.Written.{operands-wrote}
+use Rattle.write_instrs.proofs.put_operands.Statement.{statement}
+use Rattle.write_instrs.proofs.put_operands.Tie as tie
 
-put-blocks-requires : tie.Need-put-blocks-requires
-put-blocks-requires c κs =
+put-targets-requires : tie.Need-put-targets-requires
+put-targets-requires c κs =
     let c3 = c .before .before .before in
     let c7 = c3 .before .before .before .before in
     let c12 = c7 .before .before .before .before .before in
@@ -25,7 +25,7 @@ returns c =
     let c19 = c15 .before .before .before .before in
     let a = c19 .before .before .before .before .before in (
       operands-wrote (a .args .sh) (a .args .i) (a .pre .1 .1) (c19 .put-two .ensures .0) (c15 .put-literal .ensures .0)
-          (c10 .put-args .ensures .0) (c6 .put-two2 .ensures .0) (c .before .before .put-blocks .ensures .0),
+          (c10 .put-args .ensures .0) (c6 .put-two2 .ensures .0) (c .before .before .put-targets .ensures .0),
       omega (arith, c19 .put-two .ensures .1, c15 .put-literal .ensures .1, c10 .put-args .ensures .1, c6 .put-two2 .ensures .1),
     )
 
@@ -33,4 +33,4 @@ pub put-operands-spec : {M : Type 1} → statement M
 put-operands-spec =
     tie.close
     (tie.spec (λ c κs. search needs) (λ c κs. search needs) (λ c κs. search needs) (λ c κs. search needs)
-    put-blocks-requires (λ c. search needs) returns)
+    put-targets-requires (λ c. search needs) returns)

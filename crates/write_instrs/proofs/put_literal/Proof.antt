@@ -1,9 +1,9 @@
 use borrow.Author.Needs.{needs}
 use Rattle.record.specs.Write.{literal-bytes}
 use Rattle.record.specs.Answer.{literal-of}
-use Rattle.read_instrs.proofs.Written.{when-there, when-not, literal-wrote}
-use Rattle.read_instrs.proofs.put_literal.Statement.{statement}
-use Rattle.read_instrs.proofs.put_literal.Tie as tie
+use Rattle.write_instrs.proofs.Written.{when-there, when-not, literal-wrote}
+use Rattle.write_instrs.proofs.put_literal.Statement.{statement}
+use Rattle.write_instrs.proofs.put_literal.Tie as tie
 
 returns : tie.Need-returns
 returns c =

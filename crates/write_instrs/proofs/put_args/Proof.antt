@@ -5,9 +5,9 @@ use lib.ListN.{length, take}
 use borrow.Author.Needs.{needs}
 use Rattle.record.specs.Record.{nm}
 use Rattle.record.specs.Write.{argument-bytes}
-use Rattle.read_instrs.proofs.Written.{when-there, when-not, args-wrote}
-use Rattle.read_instrs.proofs.put_args.Statement.{statement}
-use Rattle.read_instrs.proofs.put_args.Tie as tie
+use Rattle.write_instrs.proofs.Written.{when-there, when-not, args-wrote}
+use Rattle.write_instrs.proofs.put_args.Statement.{statement}
+use Rattle.write_instrs.proofs.put_args.Tie as tie
 
 returns : tie.Need-returns
 returns c =

@@ -3,8 +3,8 @@ use mathlib.Core.Path.{_≡_, sym, ap, _∙_, subst}
 use borrow.Author.Needs.{needs}
 use Rattle.record.specs.Reader.{num-at}
 use Rattle.write_bytes.proofs.Numbers.{width-four}
-use Rattle.read_instrs.proofs.word_at.Statement.{statement}
-use Rattle.read_instrs.proofs.word_at.Tie as tie
+use Rattle.read_instrs.proofs.read_id.Statement.{statement}
+use Rattle.read_instrs.proofs.read_id.Tie as tie
 
 returns : tie.Need-returns
 returns c =
@@ -21,5 +21,5 @@ returns-2 c =
     let h : c .be32 .result < 256 ^ 4 = c .be32 .ensures .1 in
     (c .be32 .ensures .0 ∙ ap (num-at (a .args .s .now) (a .args .at)) e, subst (λ (w : ℕ). c .be32 .result < 256 ^ w) e h)
 
-pub word-at-spec : {M : Type 1} → statement M
-word-at-spec = tie.close (tie.spec (λ c κs. search needs) returns (λ c κs. search needs) returns-2)
+pub read-id-spec : {M : Type 1} → statement M
+read-id-spec = tie.close (tie.spec (λ c κs. search needs) returns (λ c κs. search needs) returns-2)

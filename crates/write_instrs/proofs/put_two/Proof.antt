@@ -1,9 +1,9 @@
 use borrow.Author.Needs.{needs}
 use Rattle.record.specs.Write.{be}
 use Rattle.write_bytes.proofs.Wrote.{wrote-number}
-use Rattle.read_instrs.proofs.Written.{when-there, when-not}
-use Rattle.read_instrs.proofs.put_two.Statement.{statement}
-use Rattle.read_instrs.proofs.put_two.Tie as tie
+use Rattle.write_instrs.proofs.Written.{when-there, when-not}
+use Rattle.write_instrs.proofs.put_two.Statement.{statement}
+use Rattle.write_instrs.proofs.put_two.Tie as tie
 
 returns : tie.Need-returns
 returns c =
