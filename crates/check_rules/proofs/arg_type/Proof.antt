@@ -6,7 +6,7 @@ use Rattle.check_rules.proofs.arg_type.Tie as tie
 returns : tie.Need-returns
 returns c =
     let n = c .before .before .byte-or .ensures .0 in
-    (arg-there _ _ _ _ _ _ n (c .before .if1 .taken) (c .type-at .ensures .0), c .type-at .ensures .1)
+    (arg-there _ _ _ _ _ _ n (c .before .if1 .taken) (c .index-type .ensures .0), c .index-type .ensures .1)
 
 returns-2 : tie.Need-returns-2
 returns-2 c =
