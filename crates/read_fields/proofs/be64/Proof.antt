@@ -2,7 +2,7 @@
 use mathlib.Core.Path.{sym, ap, _∙_}
 use borrow.Author.Needs.{needs}
 use Rattle.read_fields.specs.Answer.{res}
-use Rattle.read_fields.proofs.Laws.{number, eight-halves}
+use Rattle.read_fields.proofs.Laws.{number-there, eight-halves}
 use Rattle.read_fields.proofs.be64.Statement.{statement}
 use Rattle.read_fields.proofs.be64.Tie as tie
 
@@ -10,7 +10,7 @@ returns : tie.Need-returns
 returns c =
     let w = c .before .before .before in
     let a = w .before .before .args in
-    number (a .s .now) (a .at) 8 _ _ (sym (ap res (c .before .x .given .1)) ∙ w .eight-at .ensures)
+    number-there (a .s .now) (a .at) 8 _ _ (sym (ap res (c .before .x .given .1)) ∙ w .eight-at .ensures)
 
 returns-2 : tie.Need-returns-2
 returns-2 c =
