@@ -1,4 +1,4 @@
--- `check_blocks::instrs_at` meets its contract. The invariant: the rest from here gives the whole answer.
+-- `check_blocks::check_instrs` meets its contract. The invariant: the rest from here gives the whole answer.
 use mathlib.Core.Path.{_≡_, refl, sym, _∙_}
 use native.Mathlib.Omega.{arith}
 use borrow.Author.Needs.{needs}
@@ -7,8 +7,8 @@ use Rattle.record.specs.Reader.{times}
 use Rattle.record.specs.Answer.{verdict}
 use Rattle.record.specs.Read.{instr}
 use Rattle.record.proofs.Following.{times-stopped, times-went, times-done}
-use Rattle.check_blocks.proofs.instrs_at.Statement.{statement}
-use Rattle.check_blocks.proofs.instrs_at.Tie as tie
+use Rattle.check_blocks.proofs.check_instrs.Statement.{statement}
+use Rattle.check_blocks.proofs.check_instrs.Tie as tie
 
 abbrev Inv-loop : tie.InvT-loop
 Inv-loop s at count w n b p₀ left₀ p left =
@@ -25,21 +25,21 @@ returns : tie.Need-returns Inv-loop μ-loop
 returns c =
     let w = c .before .before .before in
     times-stopped (λ left. instr _ _ _ (eqb left 0)) _ _ _ (w .before .loop-test .taken) _ _
-    (sym (w .instr-at .ensures) ∙ c .before .k .given .1)
+    (sym (w .check-instr .ensures) ∙ c .before .k .given .1)
     ∙ w .before .before .loop .inv
 
 loop-again : tie.Need-loop-again Inv-loop μ-loop
 loop-again c =
     let w = c .before .before .before in
     times-went (λ left. instr _ _ _ (eqb left 0)) _ _ _ (w .before .loop-test .taken) _
-    (sym (w .instr-at .ensures) ∙ c .before .next .given .1)
+    (sym (w .check-instr .ensures) ∙ c .before .next .given .1)
     ∙ w .before .before .loop .inv
 
 returns-2 : tie.Need-returns-2 Inv-loop μ-loop
 returns-2 c = times-done (λ left. instr _ _ _ (eqb left 0)) _ _ _ (omega arith) ∙ c .before .loop .inv
 
-pub instrs-at-spec : {M : Type 1} → statement M
-instrs-at-spec =
+pub check-instrs-spec : {M : Type 1} → statement M
+check-instrs-spec =
     tie.close
     (tie.spec Inv-loop μ-loop loop-holds (λ c. search needs) (λ c κs. search needs) (λ c. search needs)
     (λ c. search needs) returns (λ c. search needs) (λ c. search needs) loop-again returns-2)

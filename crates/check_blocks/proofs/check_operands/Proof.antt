@@ -1,12 +1,12 @@
--- `check_blocks::operands_at` meets its contract.
+-- `check_blocks::check_operands` meets its contract.
 use mathlib.Core.Path.{sym, _∙_}
 use borrow.Author.Needs.{needs}
 use Rattle.record.specs.Reader.{field, times}
 use Rattle.record.specs.Tests.{below}
 use Rattle.record.specs.Read.{operands}
 use Rattle.record.proofs.Following.{stopped, passed, made}
-use Rattle.check_blocks.proofs.operands_at.Statement.{statement}
-use Rattle.check_blocks.proofs.operands_at.Tie as tie
+use Rattle.check_blocks.proofs.check_operands.Statement.{statement}
+use Rattle.check_blocks.proofs.check_operands.Tie as tie
 
 returns : tie.Need-returns
 unfolding operands
@@ -58,8 +58,8 @@ returns-5 c =
     c .indexes-at .ensures
     ∙ sym (made (times _ (λ left. field 2 (below (d .before .before .before .before .args .b)))) _ _ _)))))
 
-pub operands-at-spec : {M : Type 1} → statement M
-operands-at-spec =
+pub check-operands-spec : {M : Type 1} → statement M
+check-operands-spec =
     tie.close
     (tie.spec (λ c κs. search needs) (λ c. search needs) (λ c. search needs) returns (λ c κs. search needs)
     (λ c. search needs) (λ c. search needs) returns-2 (λ c κs. search needs) (λ c. search needs) (λ c. search needs)

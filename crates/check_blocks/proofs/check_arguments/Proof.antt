@@ -1,4 +1,4 @@
--- `check_blocks::arguments_at` meets its contract.
+-- `check_blocks::check_arguments` meets its contract.
 use mathlib.Core.Path.{sym, ap, _∙_}
 use borrow.Author.Needs.{needs}
 use Rattle.record.specs.Reader.{field, times}
@@ -6,8 +6,8 @@ use Rattle.record.specs.Tests.{count-test}
 use Rattle.record.specs.Read.{name-index, arguments}
 use Rattle.record.proofs.Following.{read-no, read-is, made, indexes-verdict}
 use Rattle.read_fields.specs.Answer.{res}
-use Rattle.check_blocks.proofs.arguments_at.Statement.{statement}
-use Rattle.check_blocks.proofs.arguments_at.Tie as tie
+use Rattle.check_blocks.proofs.check_arguments.Statement.{statement}
+use Rattle.check_blocks.proofs.check_arguments.Tie as tie
 
 returns : tie.Need-returns
 unfolding arguments
@@ -24,7 +24,7 @@ returns-2 c =
     read-no (field 1 (count-test _)) _ _ _ _ _
     (sym (c .before .before .before .count-at .ensures) ∙ ap res (c .before .k .given .1))
 
-pub arguments-at-spec : {M : Type 1} → statement M
-arguments-at-spec =
+pub check-arguments-spec : {M : Type 1} → statement M
+check-arguments-spec =
     tie.close
     (tie.spec (λ c κs. search needs) (λ c. search needs) (λ c κs. search needs) (λ c. search needs) returns returns-2)

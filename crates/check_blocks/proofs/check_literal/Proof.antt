@@ -1,4 +1,4 @@
--- `check_blocks::literal_at` meets its contract.
+-- `check_blocks::check_literal` meets its contract.
 use mathlib.Core.Path.{sym, ap, _∙_}
 use borrow.Author.Needs.{needs}
 use Rattle.record.specs.Reader.{field}
@@ -7,8 +7,8 @@ use Rattle.record.specs.Answer.{verdict}
 use Rattle.record.specs.Read.{literal}
 use Rattle.record.proofs.Following.{read-no, read-is, made}
 use Rattle.read_fields.specs.Answer.{res}
-use Rattle.check_blocks.proofs.literal_at.Statement.{statement}
-use Rattle.check_blocks.proofs.literal_at.Tie as tie
+use Rattle.check_blocks.proofs.check_literal.Statement.{statement}
+use Rattle.check_blocks.proofs.check_literal.Tie as tie
 
 returns : tie.Need-returns
 unfolding literal
@@ -25,8 +25,8 @@ returns-2 c =
     read-no (field 1 (at-most 3)) _ _ _ _ _
     (sym (c .before .before .before .one-limited .ensures) ∙ ap res (c .before .k .given .1))
 
-pub literal-at-spec : {M : Type 1} → statement M
-literal-at-spec =
+pub check-literal-spec : {M : Type 1} → statement M
+check-literal-spec =
     tie.close
     (tie.spec (λ c κs. search needs) (λ c. search needs) (λ c κs. search needs) (λ c κs. search needs)
     (λ c. search needs) returns returns-2)
