@@ -1,4 +1,4 @@
--- `check_blocks::check_arguments` meets its contract.
+-- `check_blocks::check_arguments` meets its contract: their count, then the names.
 use mathlib.Core.Path.{sym, ap, _∙_}
 use borrow.Author.Needs.{needs}
 use Rattle.record.specs.Reader.{field, times}

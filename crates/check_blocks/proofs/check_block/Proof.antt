@@ -1,4 +1,4 @@
--- `check_blocks::check_block` meets its contract.
+-- `check_blocks::check_block` meets its contract: its count, its saves, then its instructions.
 use mathlib.Core.Path.{sym, ap, _∙_}
 use borrow.Author.Needs.{needs}
 use lib.Dec.{eqb}

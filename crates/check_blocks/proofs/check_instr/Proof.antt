@@ -1,4 +1,4 @@
--- `check_blocks::check_instr` meets its contract.
+-- `check_blocks::check_instr` meets its contract: its id, its code, then its operands.
 use mathlib.Core.Path.{sym, ap, _∙_}
 use borrow.Author.Needs.{needs}
 use Rattle.record.specs.Read.{instr}

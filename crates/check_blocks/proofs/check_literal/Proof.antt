@@ -1,4 +1,4 @@
--- `check_blocks::check_literal` meets its contract.
+-- `check_blocks::check_literal` meets its contract: its kind, then its bits.
 use mathlib.Core.Path.{sym, ap, _∙_}
 use borrow.Author.Needs.{needs}
 use Rattle.record.specs.Reader.{field}

@@ -1,4 +1,4 @@
--- `check_blocks::check_operands` meets its contract.
+-- `check_blocks::check_operands` meets its contract: its parts in order, each passed or refused.
 use mathlib.Core.Path.{sym, _∙_}
 use borrow.Author.Needs.{needs}
 use Rattle.record.specs.Reader.{field, times}
