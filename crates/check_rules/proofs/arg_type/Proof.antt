@@ -1,3 +1,4 @@
+-- `check_rules::arg_type` meets its contract: by whether there is such an argument.
 use borrow.Author.Needs.{needs}
 use Rattle.check_rules.proofs.Laws.{arg-there, arg-past}
 use Rattle.check_rules.proofs.arg_type.Statement.{statement}

@@ -2,7 +2,6 @@
 use mathlib.Core.Path.{refl}
 use native.Mathlib.Omega.{arith}
 use Rattle.check_rules.proofs.Laws.{rule-row}
-use borrow.Author.Needs.{needs}
 use Rattle.check_rules.proofs.effect_rule.Statement.{statement}
 use Rattle.check_rules.proofs.effect_rule.Tie as tie
 

@@ -7,7 +7,6 @@ use Rattle.read_fields.proofs.two_limited.Tie as tie
 
 pub two-limited-spec : {M : Type 1} → statement M
 two-limited-spec =
-    tie.close
-    (tie.spec (λ c κs. search needs) (λ c κs. search needs) (λ c κs. search needs) (λ c κs. search needs)
+    tie.close (tie.spec (λ c κs. search needs) (λ c κs. search needs) (λ c κs. search needs) (λ c κs. search needs)
     (λ c. field-tested _ _ 2 (at-most _) (c .before .before .before .two-at .ensures) (c .before .before .number .ensures)
     (c .before .at-most .ensures) (c .tested .ensures)))

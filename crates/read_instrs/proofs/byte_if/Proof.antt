@@ -1,3 +1,4 @@
+-- `read_instrs::byte_if` meets its contract: by whether it is there.
 use borrow.Author.Needs.{needs}
 use Rattle.read_instrs.proofs.byte_if.Statement.{statement}
 use Rattle.read_instrs.proofs.byte_if.Tie as tie

@@ -1,3 +1,4 @@
+-- `read_instrs::read_args` meets its contract: the first i stand in the array.
 use Prim.Native.Nat.{_+_, _-_, _*_, _≤_}
 use mathlib.Core.Path.{_≡_, refl, _∙_}
 use native.Mathlib.Omega.{arith}

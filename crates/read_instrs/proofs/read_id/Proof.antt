@@ -1,3 +1,4 @@
+-- `read_instrs::read_id` meets its contract: by the width of an id.
 use Prim.Native.Nat.{ℕ, _^_, _<_}
 use mathlib.Core.Path.{_≡_, sym, ap, _∙_, subst}
 use borrow.Author.Needs.{needs}

@@ -1,3 +1,4 @@
+-- `read_instrs::read_instr` meets its contract: its id, its code, then what stands behind it.
 use native.Mathlib.Omega.{arith}
 use borrow.Author.Needs.{needs}
 use Rattle.read_instrs.proofs.Again.{readable-parts, read-again}

@@ -1,3 +1,4 @@
+-- `read_instrs::read_literal` meets its contract: by whether it is there.
 use mathlib.Core.Path.{_∙_}
 use borrow.Author.Needs.{needs}
 use Rattle.record.specs.Answer.{literal-of}

@@ -1,3 +1,4 @@
+-- `read_instrs::read_operands` meets its contract: each part is read at the place that the parts before it leave.
 use Prim.Native.Nat.{_+_, _≤_}
 use mathlib.Core.Path.{refl, ap}
 use native.Mathlib.Omega.{arith}
@@ -33,16 +34,21 @@ places :
 places c =
     record { counted = counted (c .before .before .before); callee-is = c .before .past-if3 .ensures .0; blocks-is = c .past-if4 .ensures .0 }
 
-near : (c : tie.After-past-if4) → c .past-if4 .result ≤ c .before .before .before .before .before .before .before .before .args .at + 30
+near :
+    (c : tie.After-past-if4) →
+    let w = c .before .before .before .before .before in c .past-if4 .result ≤ w .before .before .before .args .at + 30
 near c =
     let w = c .before .before .before .before .before in
     omega
     (arith, few (c .before .before .before), w .before .past-if .ensures .1, w .past-if2 .ensures .1, c .before .past-if3 .ensures .1, c .past-if4 .ensures .1)
 
-two-blocks : (c : tie.After-past-if4) → c .before .before .before .before .before .before .before .before .args .sh .blocks ≤ 2
+two-blocks :
+    (c : tie.After-past-if4) →
+    let w = c .before .before .before .before .before in w .before .before .before .args .sh .blocks ≤ 2
 two-blocks c =
-    let c8 = c .before .before .before .before .before .before .before .before in
-    rw (c8 .pre .1 .0) (shape-blocks (c8 .args .code))
+    let w = c .before .before .before .before .before in
+    let a = w .before .before .before in
+    rw (a .pre .1 .0) (shape-blocks (a .args .code))
 
 past-if-requires-3 : tie.Need-past-if-requires-3
 past-if-requires-3 c κs = omega (arith, few (c .before))

@@ -1,3 +1,4 @@
+-- `read_instrs::read_targets` meets its contract: the first n of two.
 use borrow.Author.Needs.{needs}
 use Rattle.record.specs.Decode.{number-from}
 use Rattle.read_instrs.proofs.Rows.{items-two}

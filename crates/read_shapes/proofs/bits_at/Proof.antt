@@ -7,7 +7,6 @@ use Rattle.read_shapes.proofs.bits_at.Tie as tie
 
 pub bits-at-spec : {M : Type 1} → statement M
 bits-at-spec =
-    tie.close
-    (tie.spec (λ c κs. search needs) (λ c κs. search needs) (λ c κs. search needs) (λ c κs. search needs)
+    tie.close (tie.spec (λ c κs. search needs) (λ c κs. search needs) (λ c κs. search needs) (λ c κs. search needs)
     (λ c. field-tested _ _ 8 (literal-test _) (c .before .before .before .eight-at .ensures) (c .before .before .number .ensures)
     (c .before .literal-test .ensures) (c .tested .ensures)))

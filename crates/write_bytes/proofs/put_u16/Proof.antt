@@ -8,7 +8,6 @@ use Rattle.write_bytes.proofs.put_u16.Tie as tie
 
 pub put-u16-spec : {M : Type 1} → statement M
 put-u16-spec =
-    tie.close
-    (tie.spec (λ c. search needs) (λ c κs. search needs) (λ c. search needs) (λ c. search needs)
+    tie.close (tie.spec (λ c. search needs) (λ c κs. search needs) (λ c. search needs) (λ c. search needs)
     (λ c κs. search needs) (λ c. search needs) (λ c. put-then _ _ 1 _ _ _ (be-2 _) (length-be 1 _)
     (c .before .before .before .before .before .before .put-u8 .ensures) (c .before .before .put-u82 .ensures)))

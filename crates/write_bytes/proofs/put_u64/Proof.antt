@@ -8,7 +8,6 @@ use Rattle.write_bytes.proofs.put_u64.Tie as tie
 
 pub put-u64-spec : {M : Type 1} → statement M
 put-u64-spec =
-    tie.close
-    (tie.spec (λ c. search needs) (λ c κs. search needs) (λ c. search needs) (λ c. search needs)
+    tie.close (tie.spec (λ c. search needs) (λ c κs. search needs) (λ c. search needs) (λ c. search needs)
     (λ c κs. search needs) (λ c. search needs) (λ c. put-then _ _ 4 _ _ _ (be-8 _) (length-be 4 _)
     (c .before .before .before .before .before .before .put-u32 .ensures) (c .before .before .put-u322 .ensures)))

@@ -1,3 +1,4 @@
+-- `write_instrs::put_args` meets its contract: their count, then the row, where they are there.
 use mathlib.Core.Path.{_≡_}
 use mathlib.Core.List.{map}
 use native.Mathlib.Omega.{arith}

@@ -1,3 +1,4 @@
+-- `write_instrs::put_instr` meets its contract: its id, its code, then what stands behind it.
 use mathlib.Core.Path.{ap, _∙_}
 use native.Mathlib.Omega.{arith}
 use borrow.Author.Needs.{needs}

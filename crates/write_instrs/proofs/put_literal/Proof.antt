@@ -1,3 +1,4 @@
+-- `write_instrs::put_literal` meets its contract: its kind, then its bits, where it is there.
 use borrow.Author.Needs.{needs}
 use Rattle.record.specs.Write.{literal-bytes}
 use Rattle.record.specs.Answer.{literal-of}

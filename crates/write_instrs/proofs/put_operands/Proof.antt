@@ -1,3 +1,4 @@
+-- `write_instrs::put_operands` meets its contract: its parts, one behind the other.
 use Prim.Native.Nat.{_≤_}
 use native.Mathlib.Omega.{arith}
 use borrow.Author.Needs.{needs}

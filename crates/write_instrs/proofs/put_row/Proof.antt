@@ -1,3 +1,4 @@
+-- `write_instrs::put_row` meets its contract: what is left to write gives the whole answer.
 use Prim.Native.Nat.{ℕ, _+_, _-_, _*_, _<_, _≤_}
 use mathlib.Core.Path.{_≡_, refl, ap}
 use mathlib.Core.List.{List, [], map}

@@ -1,3 +1,4 @@
+-- `write_instrs::put_two` meets its contract: by whether it is there.
 use borrow.Author.Needs.{needs}
 use Rattle.record.specs.Write.{be}
 use Rattle.write_bytes.proofs.Wrote.{wrote-number}
