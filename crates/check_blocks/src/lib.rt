@@ -18,7 +18,7 @@ ghost use Rattle.read_fields.specs.Answer.{res};
 
 // ---- the parts of an instruction
 // A literal: its kind, then its bits.
-pub fn literal_at(s: &[u8], at: usize) -> Next
+pub fn check_literal(s: &[u8], at: usize) -> Next
     ensures { λ r. ⌜ r ≡ verdict (literal (now (s .entry)) at) ⌝ }
 {
     match read_fields::one_limited(s, at, 3) {
@@ -28,7 +28,7 @@ pub fn literal_at(s: &[u8], at: usize) -> Next
 }
 
 // An argument count and that many names of n.
-pub fn arguments_at(s: &[u8], at: usize, sh: Shape, n: u64) -> Next
+pub fn check_arguments(s: &[u8], at: usize, sh: Shape, n: u64) -> Next
     ensures { λ r. ⌜ r ≡ verdict (arguments n sh (now (s .entry)) at) ⌝ }
 {
     match read_shapes::count_at(s, at, sh) {
@@ -53,7 +53,7 @@ pub fn literal_if(there: bool, s: &[u8], at: usize) -> Next
     ensures { λ r. ⌜ r ≡ verdict (if-there there no-lit literal (now (s .entry)) at) ⌝ }
 {
     if there {
-        literal_at(s, at)
+        check_literal(s, at)
     } else {
         Next::At(at)
     }
@@ -64,7 +64,7 @@ pub fn arguments_if(there: bool, s: &[u8], at: usize, sh: Shape, n: u64) -> Next
     ensures { λ r. ⌜ r ≡ verdict (if-there there [] (arguments n sh) (now (s .entry)) at) ⌝ }
 {
     if there {
-        arguments_at(s, at, sh, n)
+        check_arguments(s, at, sh, n)
     } else {
         Next::At(at)
     }
@@ -84,7 +84,7 @@ pub fn callee_if(there: bool, s: &[u8], at: usize) -> Next
 // ---- instructions
 // What stands behind the code of an instruction of this shape, in a record of n names and b blocks.
 // The verdict does not depend on the id and the code that the instruction is given.
-pub fn operands_at(s: &[u8], at: usize, sh: Shape, n: u64, b: u64) -> Next
+pub fn check_operands(s: &[u8], at: usize, sh: Shape, n: u64, b: u64) -> Next
     ensures { λ r. ⌜ ((id code : ℕ) → r ≡ verdict (operands n b sh id code (now (s .entry)) at)) ⌝ }
 {
     let mut p = at;
@@ -124,12 +124,12 @@ pub fn operands_at(s: &[u8], at: usize, sh: Shape, n: u64, b: u64) -> Next
 }
 
 // An instruction whose id has w bytes, in the last place of its block or before it.
-pub fn instr_at(s: &[u8], at: usize, w: usize, n: u64, b: u64, last: bool) -> Next
+pub fn check_instr(s: &[u8], at: usize, w: usize, n: u64, b: u64, last: bool) -> Next
     ensures { λ r. ⌜ r ≡ verdict (instr w n b last (now (s .entry)) at) ⌝ }
 {
     match read_fields::skip_at(s, at, w) {
         Next::At(p) => match read_shapes::code_at(s, p, last) {
-            Num::Is(code, q) => operands_at(s, q, read_shapes::shape_of(code), n, b),
+            Num::Is(code, q) => check_operands(s, q, read_shapes::shape_of(code), n, b),
             Num::No(k, o) => Next::Refused(k, o),
         },
         Next::Refused(k, o) => Next::Refused(k, o),
@@ -137,13 +137,13 @@ pub fn instr_at(s: &[u8], at: usize, w: usize, n: u64, b: u64, last: bool) -> Ne
 }
 
 // The instructions of a block. The last is the one with none left behind it.
-pub fn instrs_at(s: &[u8], at: usize, count: u64, w: usize, n: u64, b: u64) -> Next
+pub fn check_instrs(s: &[u8], at: usize, count: u64, w: usize, n: u64, b: u64) -> Next
     ensures { λ r. ⌜ r ≡ verdict (times count (λ left. instr w n b (eqb left 0)) (now (s .entry)) at) ⌝ }
 {
     let mut p = at;
     let mut left = count;
     while left > 0 {
-        match instr_at(s, p, w, n, b, left - 1 == 0) {
+        match check_instr(s, p, w, n, b, left - 1 == 0) {
             Next::At(next) => {
                 p = next;
             }
@@ -161,26 +161,24 @@ pub fn instrs_at(s: &[u8], at: usize, count: u64, w: usize, n: u64, b: u64) -> N
 pub fn saves_test(made: bool, n: u64) -> Test
     ensures { λ r. ⌜ r ≡ saves-test made n ⌝ }
 {
-    read_fields::need(made || n == 0, Refusal::Limit)
+    read_fields::need(made | (n == 0), Refusal::Limit)
 }
 
 // A block's saves.
 pub fn saves_at(s: &[u8], at: usize, made: bool) -> Num
     ensures { λ r. ⌜ res r ≡ field 2 (saves-test made) (now (s .entry)) at ⌝ }
 {
-    match read_fields::two_at(s, at) {
-        Num::Is(x, p) => read_fields::judged(saves_test(made, x), x, p, at),
-        Num::No(k, o) => Num::No(k, o),
-    }
+    let n = read_fields::two_at(s, at);
+    read_fields::tested(n, saves_test(made, read_fields::number(n)), at)
 }
 
 // A block of a record of n names and b blocks: how many instructions, saves, the instructions.
-pub fn block_at(s: &[u8], at: usize, lim: Limits, w: usize, n: u64, b: u64) -> Next
+pub fn check_block(s: &[u8], at: usize, lim: Limits, w: usize, n: u64, b: u64) -> Next
     ensures { λ r. ⌜ r ≡ verdict (block lim w n b (now (s .entry)) at) ⌝ }
 {
     match read_fields::two_limited(s, at, lim.body) {
         Num::Is(count, p) => match saves_at(s, p, lim.made) {
-            Num::Is(_, q) => instrs_at(s, q, count, w, n, b),
+            Num::Is(_, q) => check_instrs(s, q, count, w, n, b),
             Num::No(k, o) => Next::Refused(k, o),
         },
         Num::No(k, o) => Next::Refused(k, o),
@@ -188,13 +186,13 @@ pub fn block_at(s: &[u8], at: usize, lim: Limits, w: usize, n: u64, b: u64) -> N
 }
 
 // All b blocks.
-pub fn blocks_at(s: &[u8], at: usize, lim: Limits, w: usize, n: u64, b: u64) -> Next
+pub fn check_blocks(s: &[u8], at: usize, lim: Limits, w: usize, n: u64, b: u64) -> Next
     ensures { λ r. ⌜ r ≡ verdict (times b (λ left. block lim w n b) (now (s .entry)) at) ⌝ }
 {
     let mut p = at;
     let mut left = b;
     while left > 0 {
-        match block_at(s, p, lim, w, n, b) {
+        match check_block(s, p, lim, w, n, b) {
             Next::At(next) => {
                 p = next;
             }

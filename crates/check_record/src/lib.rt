@@ -95,7 +95,7 @@ pub fn names_and_blocks_at(s: &[u8], at: usize, lim: Limits, w: usize, n: u64) -
 {
     match check_names::names_at(lim, s, at, n) {
         Next::At(p) => match read_fields::two_limited(s, p, 64) {
-            Num::Is(b, q) => check_blocks::blocks_at(s, q, lim, w, n, b),
+            Num::Is(b, q) => check_blocks::check_blocks(s, q, lim, w, n, b),
             Num::No(k, o) => Next::Refused(k, o),
         },
         Next::Refused(k, o) => Next::Refused(k, o),

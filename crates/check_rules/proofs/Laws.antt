@@ -40,9 +40,9 @@ rule-none c h = sym (row-beyond free rules 71 c refl h)
 
 -- ---- types
 -- x: the index that stands at a place
-pub index-type : (types s : List ℕ) (at x r : ℕ) → x ≡ num-at s at 2 → r ≡ getD types x 0 → r ≡ type-in types (index-from s at)
+pub type-of-index : (types s : List ℕ) (at x r : ℕ) → x ≡ num-at s at 2 → r ≡ getD types x 0 → r ≡ type-in types (index-from s at)
 unfolding type-in index-from
-index-type types s at x r e h = h ∙ ap (λ (k : ℕ). getD types k 0) e
+type-of-index types s at x r e h = h ∙ ap (λ (k : ℕ). getD types k 0) e
 
 -- an argument's type, by its number; n: the count
 module _ (types s : List ℕ) (at k n r : ℕ) (en : n ≡ num-at s at 1) where
@@ -161,7 +161,7 @@ module _ (types s : List ℕ) (at t x y : ℕ) (r : Bool) where
 
 -- ---- a rule and the shape of its code
 -- whether a code of this rule has a dest and a literal, where that matters
-abbrev parts : typing.Rule → Option (Bool × Bool)
+abbrev pub parts : typing.Rule → Option (Bool × Bool)
 parts free = none
 parts fits-dest = some (true, true)
 parts copies = some (true, false)

@@ -8,6 +8,7 @@ ghost use lib.ListN.{getD};
 ghost use Rattle.record.specs.Record.{nm, type-in};
 ghost use Rattle.record.specs.Typing.{fits-dest, copies, shifts, allocates, loads, stores, frees, branches, takes, well-typed};
 ghost use Rattle.record.specs.Decode.{index-from, instr-from};
+ghost use Rattle.read_fields.specs.Places.{places};
 ghost use Rattle.check_rules.specs.Rules.{rule, code-rule, args-from, Kept};
 
 // What a code asks of the types of its dest and its arguments. TakesOne: an argument of the first type, a dest of the second.
@@ -98,8 +99,8 @@ pub fn rule_of(code: u64) -> Rule
 
 // ---- types of names
 // The type of the name whose index stands at a place.
-pub fn type_at(s: &[u8], types: &[u8], at: usize) -> u64
-    requires { ⌜ at ≤ 1000000000000000000 ⌝ }
+pub fn index_type(s: &[u8], types: &[u8], at: usize) -> u64
+    requires { ⌜ at + 1 < places ⌝ }
     ensures { λ r. ⌜ (r ≡ type-in (now (types .entry)) (index-from (now (s .entry)) at)) × (r < 256) ⌝ }
 {
     let x = read_fields::be16(s, at);
@@ -108,66 +109,66 @@ pub fn type_at(s: &[u8], types: &[u8], at: usize) -> u64
 
 // The type of argument k, where the arguments' count stands at a place; that of name 0 where there is no such argument.
 pub fn arg_type(s: &[u8], types: &[u8], at: usize, k: usize) -> u64
-    requires { ⌜ (at ≤ 100000000000000000) × (k ≤ 8) ⌝ }
+    requires { ⌜ at + 2 * k + 2 < places ⌝ }
     ensures { λ r. ⌜ (r ≡ type-in (now (types .entry)) (getD (args-from (now (s .entry)) at) k (nm 0))) × (r < 256) ⌝ }
 {
     if k < read_fields::byte_or(s, at) as usize {
-        return type_at(s, types, at + 1 + 2 * k);
+        return index_type(s, types, at + 1 + 2 * k);
     }
     read_fields::byte_or(types, 0)
 }
 
-// ---- the rules, for operands that stand at a place
+// ---- the rules, for operands that stand at a place: dest, count and two arguments have seven bytes
 // A literal fits its own type, an int literal also float.
 pub fn fits_dest(s: &[u8], types: &[u8], at: usize) -> bool
-    requires { ⌜ at ≤ 10000000000000000 ⌝ }
+    requires { ⌜ at + 6 < places ⌝ }
     ensures { λ r. ⌜ Kept r fits-dest true true (now (types .entry)) (now (s .entry)) at ⌝ }
 {
     let kind = read_fields::byte_or(s, at + 2);
-    let t = type_at(s, types, at);
-    t == kind || (kind == INT && t == FLOAT)
+    let t = index_type(s, types, at);
+    (t == kind) | ((kind == INT) & (t == FLOAT))
 }
 
 // Dest and argument have one type.
 pub fn copies(s: &[u8], types: &[u8], at: usize) -> bool
-    requires { ⌜ at ≤ 10000000000000000 ⌝ }
+    requires { ⌜ at + 6 < places ⌝ }
     ensures { λ r. ⌜ Kept r copies true false (now (types .entry)) (now (s .entry)) at ⌝ }
 {
-    type_at(s, types, at) == arg_type(s, types, at + 2, 0)
+    index_type(s, types, at) == arg_type(s, types, at + 2, 0)
 }
 
 // A pointer and an int give a pointer of the same type.
 pub fn shifts(s: &[u8], types: &[u8], at: usize) -> bool
-    requires { ⌜ at ≤ 10000000000000000 ⌝ }
+    requires { ⌜ at + 6 < places ⌝ }
     ensures { λ r. ⌜ Kept r shifts true false (now (types .entry)) (now (s .entry)) at ⌝ }
 {
     let p = arg_type(s, types, at + 2, 0);
     let n = arg_type(s, types, at + 2, 1);
-    let t = type_at(s, types, at);
-    POINTER <= p && (n == INT && t == p)
+    let t = index_type(s, types, at);
+    (POINTER <= p) & ((n == INT) & (t == p))
 }
 
 // An int gives a pointer.
 pub fn allocates(s: &[u8], types: &[u8], at: usize) -> bool
-    requires { ⌜ at ≤ 10000000000000000 ⌝ }
+    requires { ⌜ at + 6 < places ⌝ }
     ensures { λ r. ⌜ Kept r allocates true false (now (types .entry)) (now (s .entry)) at ⌝ }
 {
     let n = arg_type(s, types, at + 2, 0);
-    let t = type_at(s, types, at);
-    n == INT && POINTER <= t
+    let t = index_type(s, types, at);
+    (n == INT) & (POINTER <= t)
 }
 
 // A pointer gives what it points to.
 pub fn loads(s: &[u8], types: &[u8], at: usize) -> bool
-    requires { ⌜ at ≤ 10000000000000000 ⌝ }
+    requires { ⌜ at + 6 < places ⌝ }
     ensures { λ r. ⌜ Kept r loads true false (now (types .entry)) (now (s .entry)) at ⌝ }
 {
-    arg_type(s, types, at + 2, 0) == type_at(s, types, at) + POINTER
+    arg_type(s, types, at + 2, 0) == index_type(s, types, at) + POINTER
 }
 
 // A pointer and what it points to; no dest stands before the arguments.
 pub fn stores(s: &[u8], types: &[u8], at: usize) -> bool
-    requires { ⌜ at ≤ 10000000000000000 ⌝ }
+    requires { ⌜ at + 6 < places ⌝ }
     ensures { λ r. ⌜ Kept r stores false false (now (types .entry)) (now (s .entry)) at ⌝ }
 {
     arg_type(s, types, at, 0) == arg_type(s, types, at, 1) + POINTER
@@ -175,7 +176,7 @@ pub fn stores(s: &[u8], types: &[u8], at: usize) -> bool
 
 // A pointer.
 pub fn frees(s: &[u8], types: &[u8], at: usize) -> bool
-    requires { ⌜ at ≤ 10000000000000000 ⌝ }
+    requires { ⌜ at + 6 < places ⌝ }
     ensures { λ r. ⌜ Kept r frees false false (now (types .entry)) (now (s .entry)) at ⌝ }
 {
     POINTER <= arg_type(s, types, at, 0)
@@ -183,7 +184,7 @@ pub fn frees(s: &[u8], types: &[u8], at: usize) -> bool
 
 // A bool.
 pub fn branches(s: &[u8], types: &[u8], at: usize) -> bool
-    requires { ⌜ at ≤ 10000000000000000 ⌝ }
+    requires { ⌜ at + 6 < places ⌝ }
     ensures { λ r. ⌜ Kept r branches false false (now (types .entry)) (now (s .entry)) at ⌝ }
 {
     arg_type(s, types, at, 0) == BOOL
@@ -191,31 +192,31 @@ pub fn branches(s: &[u8], types: &[u8], at: usize) -> bool
 
 // One argument of type a, a dest of type d.
 pub fn takes_one(s: &[u8], types: &[u8], at: usize, a: u64, d: u64) -> bool
-    requires { ⌜ at ≤ 10000000000000000 ⌝ }
+    requires { ⌜ at + 6 < places ⌝ }
     ensures { λ r. ⌜ Kept r (takes (a ∷ []) d) true false (now (types .entry)) (now (s .entry)) at ⌝ }
 {
     let n = read_fields::byte_or(s, at + 2);
     let x = arg_type(s, types, at + 2, 0);
-    let t = type_at(s, types, at);
-    n == 1 && (x == a && t == d)
+    let t = index_type(s, types, at);
+    (n == 1) & ((x == a) & (t == d))
 }
 
 // Two arguments of type a, a dest of type d.
 pub fn takes_two(s: &[u8], types: &[u8], at: usize, a: u64, d: u64) -> bool
-    requires { ⌜ at ≤ 10000000000000000 ⌝ }
+    requires { ⌜ at + 6 < places ⌝ }
     ensures { λ r. ⌜ Kept r (takes (a ∷ a ∷ []) d) true false (now (types .entry)) (now (s .entry)) at ⌝ }
 {
     let n = read_fields::byte_or(s, at + 2);
     let x = arg_type(s, types, at + 2, 0);
     let y = arg_type(s, types, at + 2, 1);
-    let t = type_at(s, types, at);
-    n == 2 && (x == a && (y == a && t == d))
+    let t = index_type(s, types, at);
+    (n == 2) & ((x == a) & ((y == a) & (t == d)))
 }
 
 // ---- an instruction
 // Whether the instruction at a place keeps to the rule of its code; w: the bytes of an id.
 pub fn typed_at(s: &[u8], types: &[u8], w: usize, at: usize) -> bool
-    requires { ⌜ (w ≤ 8) × (at ≤ 1000000000000000) ⌝ }
+    requires { ⌜ (w ≤ 8) × (at + 15 < places) ⌝ }
     ensures { λ r. ⌜ r ≡ well-typed (type-in (now (types .entry))) (instr-from w (now (s .entry)) at) ⌝ }
 {
     let p = at + w + 1;

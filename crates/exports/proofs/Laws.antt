@@ -3,12 +3,9 @@ use Prim.Native.Nat.{ℕ}
 use mathlib.Core.Path.{_≡_, sym, ap, _∙_, subst}
 use mathlib.Core.Bool.{cond}
 use mathlib.Core.List.{List, [], _∷_}
-use Rattle.record.specs.declared.Refusal.{Refusal}
 use Rattle.record.specs.declared.Checked.{Checked}
-use Rattle.record.specs.declared.Checked.the-variants as checked
-use Rattle.record.specs.Answer.{number, check-answer}
+use Rattle.record.specs.Answer.{check-answer}
 use Rattle.numbering.specs.declared.Rewritten.{Rewritten}
-use Rattle.numbering.specs.declared.Rewritten.the-variants as rewritten
 use Rattle.numbering.specs.Rewrite.{rewrite-answer}
 use Rattle.numbering.specs.NameText.{NameText, name-answer}
 use Rattle.write_bytes.specs.Put.{put}
@@ -16,35 +13,15 @@ use Rattle.name_text.specs.declared.Found.{Found}
 use Rattle.name_text.specs.Found.{found, within}
 use Rattle.exports.specs.Values.{value, values, place-values, lies-within}
 
--- ---- check
-pub check-accepted : (a : Checked) → a ≡ checked.Accepted → (0 ≡ check-answer a .number) × (0 ≡ value (check-answer a) 0)
-unfolding check-answer
-check-accepted a e = (ap (λ (x : Checked). check-answer x .number) (sym e), ap (λ (x : Checked). value (check-answer x) 0) (sym e))
+-- ---- check and rewrite
+-- what the answer b leaves, which is a
+pub check-as : {a b : Checked} → a ≡ b →
+    (check-answer b .number ≡ check-answer a .number) × (value (check-answer b) 0 ≡ value (check-answer a) 0)
+check-as e = (ap (λ (x : Checked). check-answer x .number) (sym e), ap (λ (x : Checked). value (check-answer x) 0) (sym e))
 
-pub check-refused : (a : Checked) (k : Refusal) (o r : ℕ) → a ≡ checked.Refused k o → r ≡ number k →
-    (r ≡ check-answer a .number) × (o ≡ value (check-answer a) 0)
-unfolding check-answer
-check-refused a k o r e h =
-    (h ∙ ap (λ (x : Checked). check-answer x .number) (sym e), ap (λ (x : Checked). value (check-answer x) 0) (sym e))
-
--- ---- rewrite
-pub rewrite-written : (a : Rewritten) (n k : ℕ) → a ≡ rewritten.Written n k →
-    (0 ≡ rewrite-answer a .number) × (n ∷ k ∷ [] ≡ values (rewrite-answer a))
-unfolding rewrite-answer
-rewrite-written a n k e =
-    (ap (λ (x : Rewritten). rewrite-answer x .number) (sym e), ap (λ (x : Rewritten). values (rewrite-answer x)) (sym e))
-
-pub rewrite-refused : (a : Rewritten) (k : Refusal) (o r : ℕ) → a ≡ rewritten.Refused k o → r ≡ number k →
-    (r ≡ rewrite-answer a .number) × (o ∷ 0 ∷ [] ≡ values (rewrite-answer a))
-unfolding rewrite-answer
-rewrite-refused a k o r e h =
-    (h ∙ ap (λ (x : Rewritten). rewrite-answer x .number) (sym e), ap (λ (x : Rewritten). values (rewrite-answer x)) (sym e))
-
-pub rewrite-room : (a : Rewritten) (n : ℕ) → a ≡ rewritten.Room n →
-    (9 ≡ rewrite-answer a .number) × (n ∷ 0 ∷ [] ≡ values (rewrite-answer a))
-unfolding rewrite-answer
-rewrite-room a n e =
-    (ap (λ (x : Rewritten). rewrite-answer x .number) (sym e), ap (λ (x : Rewritten). values (rewrite-answer x)) (sym e))
+pub rewrite-as : {a b : Rewritten} → a ≡ b →
+    (rewrite-answer b .number ≡ rewrite-answer a .number) × (values (rewrite-answer b) ≡ values (rewrite-answer a))
+rewrite-as e = (ap (λ (x : Rewritten). rewrite-answer x .number) (sym e), ap (λ (x : Rewritten). values (rewrite-answer x)) (sym e))
 
 -- ---- name text
 -- what is found, with the number and the offset of its answer, as the definition's

@@ -51,7 +51,7 @@ pub fn put_save(out: &mut [u8], at: usize, w: usize, i: Instruction, made: NameI
     if made.0 == 65535 {
         return at;
     }
-    read_instrs::put_instr(out, at, w, save_instr(i, made))
+    write_instrs::put_instr(out, at, w, save_instr(i, made))
 }
 
 // That save, and i; the place behind them.
@@ -62,7 +62,7 @@ pub fn put_lines(out: &mut [u8], at: usize, w: usize, i: Instruction, made: Name
         (r ≤ at + longest-lines) ⌝ }
 {
     let p = put_save(out, at, w, i, made);
-    read_instrs::put_instr(out, p, w, i)
+    write_instrs::put_instr(out, p, w, i)
 }
 
 // What the save of K = k saves, the dest of i, at the place k of a table, where a save is owed.
@@ -109,7 +109,7 @@ pub fn turn_once(
 {
     let st = t.st;
     let k = st.made;
-    let g = read_instrs::instr_at(s, t.p, w);
+    let g = read_instrs::read_instr(s, t.p, w);
     let i = g.instr;
     let e = lvn_instr::instr_lvn(st, env, homes, heads, nums, n, types, i);
     let made = e.made;

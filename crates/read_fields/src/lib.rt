@@ -3,12 +3,14 @@ use record::Next;
 use record::Refusal;
 use record::Test;
 ghost use mathlib.Core.Path.{_≡_};
-ghost use Prim.Native.Nat.{_+_, _-_, _<_};
+ghost use mathlib.Core.Bool.{cond};
+ghost use Prim.Native.Nat.{_+_, _-_, _<_, _≤_};
 ghost use lib.ListN.{length, getD};
-ghost use Rattle.record.specs.Reader.{got, num-at, field, judge, times};
+ghost use Rattle.record.specs.Reader.{got, then, num-at, field, judge, times};
 ghost use Rattle.record.specs.Tests.{need, any, at-most, below};
 ghost use Rattle.record.specs.Answer.{verdict};
-ghost use Rattle.read_fields.specs.Answer.{res};
+ghost use Rattle.read_fields.specs.Answer.{res, number};
+ghost use Rattle.read_fields.specs.Places.{places};
 
 // A field's number and the place behind it, or the reason and offset of its refusal.
 pub enum Num {
@@ -180,19 +182,26 @@ pub fn skip_at(s: &[u8], at: usize, w: usize) -> Next
 }
 
 // ---- numbers of fields whose bytes past the end count as 0
-// The byte at a place, 0 past the end.
-pub fn byte_or(s: &[u8], at: usize) -> u64
-    ensures { λ r. ⌜ (r ≡ getD (now (s .entry)) at 0) × (r < 256) ⌝ }
+// The number of a field, 0 where it was refused.
+pub fn number(n: Num) -> u64
+    ensures { λ r. ⌜ r ≡ number (res n) ⌝ }
 {
-    match one_at(s, at) {
+    match n {
         Num::Is(x, _) => x,
         Num::No(_, _) => 0,
     }
 }
 
+// The byte at a place, 0 past the end.
+pub fn byte_or(s: &[u8], at: usize) -> u64
+    ensures { λ r. ⌜ (r ≡ getD (now (s .entry)) at 0) × (r < 256) ⌝ }
+{
+    number(one_at(s, at))
+}
+
 // The number of two bytes; bytes past the end count as 0. The last of them has a place.
 pub fn be16(s: &[u8], at: usize) -> u64
-    requires { ⌜ at + 1 < 18446744073709551616 ⌝ }
+    requires { ⌜ at + 1 < places ⌝ }
     ensures { λ r. ⌜ (r ≡ num-at (now (s .entry)) at 2) × (r < 65536) ⌝ }
 {
     match two_at(s, at) {
@@ -203,7 +212,7 @@ pub fn be16(s: &[u8], at: usize) -> u64
 
 // The number of four bytes, by halves where it runs past the end.
 pub fn be32(s: &[u8], at: usize) -> u64
-    requires { ⌜ at + 3 < 18446744073709551616 ⌝ }
+    requires { ⌜ at + 3 < places ⌝ }
     ensures { λ r. ⌜ (r ≡ num-at (now (s .entry)) at 4) × (r < 4294967296) ⌝ }
 {
     match four_at(s, at) {
@@ -214,13 +223,22 @@ pub fn be32(s: &[u8], at: usize) -> u64
 
 // The number of eight bytes, by halves where it runs past the end.
 pub fn be64(s: &[u8], at: usize) -> u64
-    requires { ⌜ at + 7 < 18446744073709551616 ⌝ }
+    requires { ⌜ at + 7 < places ⌝ }
     ensures { λ r. ⌜ r ≡ num-at (now (s .entry)) at 8 ⌝ }
 {
     match eight_at(s, at) {
         Num::Is(x, _) => x,
         Num::No(_, _) => be32(s, at) * 4294967296 + be32(s, at + 4),
     }
+}
+
+// ---- places
+// The place behind n bytes that are there or not.
+pub fn past_if(there: bool, at: usize, n: usize) -> usize
+    requires { ⌜ at + n < places ⌝ }
+    ensures { λ r. ⌜ (r ≡ cond there (at + n) at) × (r ≤ at + n) ⌝ }
+{
+    if there { at + n } else { at }
 }
 
 // ---- tests of a number
@@ -255,6 +273,16 @@ pub fn judged(t: Test, x: u64, p: usize, at: usize) -> Num
     }
 }
 
+// A field that was read at a place, and the test t of its number.
+pub fn tested(n: Num, t: Test, at: usize) -> Num
+    ensures { λ r. ⌜ res r ≡ then (res n) (λ x p. judge t at (got x p)) ⌝ }
+{
+    match n {
+        Num::Is(x, p) => judged(t, x, p, at),
+        Num::No(k, o) => Num::No(k, o),
+    }
+}
+
 // Where a field ends, its number forgotten.
 pub fn verdict(n: Num) -> Next
     ensures { λ r. ⌜ r ≡ verdict (res n) ⌝ }
@@ -270,30 +298,24 @@ pub fn verdict(n: Num) -> Next
 pub fn one_limited(s: &[u8], at: usize, most: u64) -> Num
     ensures { λ r. ⌜ res r ≡ field 1 (at-most most) (now (s .entry)) at ⌝ }
 {
-    match one_at(s, at) {
-        Num::Is(x, p) => judged(at_most(most, x), x, p, at),
-        Num::No(k, o) => Num::No(k, o),
-    }
+    let n = one_at(s, at);
+    tested(n, at_most(most, number(n)), at)
 }
 
 // A field of two bytes whose number is at most `most`.
 pub fn two_limited(s: &[u8], at: usize, most: u64) -> Num
     ensures { λ r. ⌜ res r ≡ field 2 (at-most most) (now (s .entry)) at ⌝ }
 {
-    match two_at(s, at) {
-        Num::Is(x, p) => judged(at_most(most, x), x, p, at),
-        Num::No(k, o) => Num::No(k, o),
-    }
+    let n = two_at(s, at);
+    tested(n, at_most(most, number(n)), at)
 }
 
 // A name or block number, one of n.
 pub fn index_at(s: &[u8], at: usize, n: u64) -> Next
     ensures { λ r. ⌜ r ≡ verdict (field 2 (below n) (now (s .entry)) at) ⌝ }
 {
-    match two_at(s, at) {
-        Num::Is(x, p) => verdict(judged(below(n, x), x, p, at)),
-        Num::No(k, o) => Next::Refused(k, o),
-    }
+    let i = two_at(s, at);
+    verdict(tested(i, below(n, number(i)), at))
 }
 
 // A row of such numbers.

@@ -22,7 +22,7 @@ use Rattle.codes.specs.Op.{op-of}
 use Rattle.codes.proofs.Op.{op-code}
 use Rattle.read_instrs.specs.declared.Read.{Read}
 use Rattle.read_instrs.specs.Again.{lit-from, Readable, OperandsAgain, ReadAgain}
-use Rattle.read_instrs.proofs.Shapes.{shape-most}
+use Rattle.read_shapes.proofs.Bounds.{shape-most}
 use Rattle.read_instrs.proofs.Rows.{items-indexes}
 
 -- ---- parts that are there or not
@@ -49,33 +49,47 @@ module _ (s : List ℕ) (p : ℕ) where
   count-by false k h = omega arith
 
 -- ---- the places of the parts, as the code finds them, and the parts
-pub record Places (sh : Shape) (s : List ℕ) (at lit count n callee blocks : ℕ) : Type 0 where
+pub record Counted (sh : Shape) (s : List ℕ) (at lit count n : ℕ) : Type 0 where
   pub lit-is : lit ≡ cond (sh .dest) (at + 2) at
   pub count-is : count ≡ cond (sh .literal) (lit + 9) lit
   pub n-is : n ≡ cond (not (sh .literal)) (num-at s count 1) 0
+
+pub record Places (sh : Shape) (s : List ℕ) (at lit count n callee blocks : ℕ) : Type 0 where
+  pub counted : Counted sh s at lit count n
   pub callee-is : callee ≡ cond (not (sh .literal)) (count + (1 + 2 * n)) count
   pub blocks-is : blocks ≡ cond (sh .callee) (callee + 2) callee
 
-module _ {sh : Shape} {s : List ℕ} {at lit count n callee blocks : ℕ} (places : Places sh s at lit count n callee blocks) where
+module _ {sh : Shape} {s : List ℕ} {at lit count n : ℕ} (counted : Counted sh s at lit count n) where
   lit-there : lit ≡ lit-at sh s at
   unfolding lit-at
-  lit-there = places .lit-is
+  lit-there = counted .lit-is
 
   count-there : count ≡ count-at sh s at
   unfolding count-at
   count-there =
-      places .count-is ∙ cond-then (sh .literal) (lit + 9) (lit + 1 + 8) lit (λ e. omega arith) ∙
+      counted .count-is ∙ cond-then (sh .literal) (lit + 9) (lit + 1 + 8) lit (λ e. omega arith) ∙
       ap (λ (p : ℕ). cond (sh .literal) (p + 1 + 8) p) lit-there
 
+  pub count-few : (x code : ℕ) → Readable (operands-from sh s at x code) → n ≤ 8
+  unfolding operands-from
+  count-few x code h =
+      rw (counted .n-is, count-there)
+      (count-by s (count-at sh s at + 1) (not (sh .literal)) (num-at s (count-at sh s at) 1) (h .args))
+
+  pub literal-ok : (x code : ℕ) → Readable (operands-from sh s at x code) → LitOk (cond (sh .literal) (lit-from s lit) no-lit)
+  unfolding operands-from
+  literal-ok x code h = rw lit-there (h .lit)
+
+module _ {sh : Shape} {s : List ℕ} {at lit count n callee blocks : ℕ} (places : Places sh s at lit count n callee blocks) where
   callee-there : callee ≡ callee-at sh s at
   unfolding callee-at
   callee-there =
       places .callee-is ∙
       cond-then (not (sh .literal)) (count + (1 + 2 * n)) (behind two-on (count + 1) (num-at s count 1)) count (λ e.
-      let k : n ≡ num-at s count 1 = rw e at (places .n-is) in
+      let k : n ≡ num-at s count 1 = rw e at (places .counted .n-is) in
       let d : count + (1 + 2 * n) ≡ count + 1 + 2 * num-at s count 1 = omega arith in
       d ∙ sym (behind-two (count + 1) (num-at s count 1))) ∙
-      ap (λ (p : ℕ). cond (not (sh .literal)) (behind two-on (p + 1) (num-at s p 1)) p) count-there
+      ap (λ (p : ℕ). cond (not (sh .literal)) (behind two-on (p + 1) (num-at s p 1)) p) (count-there (places .counted))
 
   blocks-there : blocks ≡ targets-at sh s at
   unfolding targets-at
@@ -86,16 +100,6 @@ module _ {sh : Shape} {s : List ℕ} {at lit count n callee blocks : ℕ} (place
   end-there = sym (behind-two blocks (sh .blocks)) ∙ ap (λ (p : ℕ). behind two-on p (sh .blocks)) blocks-there
 
   module _ (x code : ℕ) where
-    pub count-few : Readable (operands-from sh s at x code) → n ≤ 8
-    unfolding operands-from
-    count-few h =
-        rw (places .n-is, count-there)
-        (count-by s (count-at sh s at + 1) (not (sh .literal)) (num-at s (count-at sh s at) 1) (h .args))
-
-    pub literal-ok : Readable (operands-from sh s at x code) → LitOk (cond (sh .literal) (lit-from s lit) no-lit)
-    unfolding operands-from
-    literal-ok h = rw lit-there (h .lit)
-
     pub operands-again :
         (i : Instruction) →
         sh ≡ shape-of code →
@@ -113,11 +117,11 @@ module _ {sh : Shape} {s : List ℕ} {at lit count n callee blocks : ℕ} (place
         let code-is : code-of (i .op) ≡ code = ap code-of o ∙ op-code code in
         let dest-is : i .dest ≡ cond (sh .dest) (index-from s at) (nm 0) = d ∙ nm-cond (sh .dest) (num-at s at 2) in
         let literal-is : literal-of (i .literal) ≡ cond (sh .literal) (lit-from s (lit-at sh s at)) no-lit =
-        l ∙ ap (λ (p : ℕ). cond (sh .literal) (lit-from s p) no-lit) lit-there in
+        l ∙ ap (λ (p : ℕ). cond (sh .literal) (lit-from s p) no-lit) (lit-there (places .counted)) in
         let args-are : map nm (take (i .count) (i .args)) ≡
         cond (not (sh .literal)) (items (index-from s) two-on (count-at sh s at + 1) (num-at s (count-at sh s at) 1)) [] =
-        ap (λ (m : ℕ). map nm (take m (i .args))) c ∙ args-by s (count + 1) (not (sh .literal)) n (num-at s count 1) (i .args) (places .n-is) a ∙
-        ap (λ (p : ℕ). cond (not (sh .literal)) (items (index-from s) two-on (p + 1) (num-at s p 1)) []) count-there in
+        ap (λ (m : ℕ). map nm (take m (i .args))) c ∙ args-by s (count + 1) (not (sh .literal)) n (num-at s count 1) (i .args) (places .counted .n-is) a ∙
+        ap (λ (p : ℕ). cond (not (sh .literal)) (items (index-from s) two-on (p + 1) (num-at s p 1)) []) (count-there (places .counted)) in
         let callee-there-is : i .callee ≡ cond (sh .callee) (num-at s (callee-at sh s at) 2) 0 =
         k ∙ ap (λ (p : ℕ). cond (sh .callee) (num-at s p 2) 0) callee-there in
         let blocks-are : take (shape-of (code-of (i .op)) .blocks) (i .blocks) ≡ items (number-from s) two-on (targets-at sh s at) (sh .blocks) =

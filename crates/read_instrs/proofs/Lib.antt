@@ -1,4 +1,2 @@
-pub mod Written
-pub mod Shapes
 pub mod Rows
 pub mod Again

@@ -4,6 +4,7 @@ use record::Refusal;
 use record::Shape;
 use record::Test;
 ghost use mathlib.Core.Path.{_≡_};
+ghost use mathlib.Core.Bool.{true, false};
 ghost use Prim.Native.Nat.{_≤_};
 ghost use Rattle.arith.specs.Value.{scalar};
 ghost use Rattle.record.specs.Reader.{field};
@@ -12,68 +13,49 @@ ghost use Rattle.record.specs.Tests.{code-test, count-test, literal-test};
 ghost use Rattle.read_fields.specs.Answer.{res};
 
 // ---- the kinds of shape
-// A value code with n arguments.
-fn value(n: u8) -> Shape
-    ensures { λ r. ⌜ r ≡ value n ⌝ }
-{
-    Shape {
-        known: true,
-        last: false,
-        literal: false,
-        dest: true,
-        few: n,
-        most: n,
-        callee: false,
-        blocks: 0,
-    }
-}
-
-// An effect code with n arguments.
-fn effect(n: u8) -> Shape
-    ensures { λ r. ⌜ r ≡ effect n ⌝ }
-{
-    Shape {
-        known: true,
-        last: false,
-        literal: false,
-        dest: false,
-        few: n,
-        most: n,
-        callee: false,
-        blocks: 0,
-    }
-}
-
-// A call with a dest or without one.
-fn call(dest: bool) -> Shape
-    ensures { λ r. ⌜ r ≡ call dest ⌝ }
+// That of a code with few to most arguments which ends no block; most have no callee.
+fn inner(dest: bool, few: u8, most: u8, callee: bool) -> Shape
+    ensures { λ r.
+        ⌜ r ≡ record { known = true; last = false; literal = false; dest = dest; few = few; most = most; callee = callee; blocks = 0 } ⌝ }
 {
     Shape {
         known: true,
         last: false,
         literal: false,
         dest: dest,
-        few: 0,
-        most: 8,
-        callee: true,
+        few: few,
+        most: most,
+        callee: callee,
         blocks: 0,
     }
+}
+
+// A value code with n arguments.
+fn value(n: u8) -> Shape
+    ensures { λ r. ⌜ r ≡ value n ⌝ }
+{
+    inner(true, n, n, false)
+}
+
+// An effect code with n arguments.
+fn effect(n: u8) -> Shape
+    ensures { λ r. ⌜ r ≡ effect n ⌝ }
+{
+    inner(false, n, n, false)
+}
+
+// A call with a dest or without one.
+fn call(dest: bool) -> Shape
+    ensures { λ r. ⌜ r ≡ call dest ⌝ }
+{
+    inner(dest, 0, 8, true)
 }
 
 // print, with up to eight arguments.
 fn print() -> Shape
     ensures { λ r. ⌜ r ≡ print ⌝ }
 {
-    Shape {
-        known: true,
-        last: false,
-        literal: false,
-        dest: false,
-        few: 0,
-        most: 8,
-        callee: false,
-        blocks: 0,
-    }
+    inner(false, 0, 8, false)
 }
 
 // The fewest and the most arguments of jmp, br or ret, and its block numbers.
@@ -184,7 +166,7 @@ pub fn code_test(last: bool, code: u64) -> Test
 {
     let sh = shape_of(code);
     if sh.known {
-        return read_fields::need(last || !sh.last, Refusal::Place);
+        return read_fields::need(last | !sh.last, Refusal::Place);
     }
     Test::Fails(Refusal::Code)
 }
@@ -193,14 +175,14 @@ pub fn code_test(last: bool, code: u64) -> Test
 pub fn count_test(sh: Shape, n: u64) -> Test
     ensures { λ r. ⌜ r ≡ count-test sh n ⌝ }
 {
-    read_fields::need(sh.few as u64 <= n && n <= sh.most as u64, Refusal::Limit)
+    read_fields::need((sh.few as u64 <= n) & (n <= sh.most as u64), Refusal::Limit)
 }
 
 // A Unicode scalar value.
 pub fn scalar(x: u64) -> bool
     ensures { λ r. ⌜ r ≡ scalar x ⌝ }
 {
-    x < 55296 || 57344 <= x && x <= 1114111
+    (x < 55296) | ((57344 <= x) & (x <= 1114111))
 }
 
 // A bool is 0 or 1, a char a scalar value; ints and floats are any bits.
@@ -220,28 +202,22 @@ pub fn literal_test(kind: u64, x: u64) -> Test
 pub fn code_at(s: &[u8], at: usize, last: bool) -> Num
     ensures { λ r. ⌜ res r ≡ field 1 (code-test last) (now (s .entry)) at ⌝ }
 {
-    match read_fields::one_at(s, at) {
-        Num::Is(x, p) => read_fields::judged(code_test(last, x), x, p, at),
-        Num::No(k, o) => Num::No(k, o),
-    }
+    let n = read_fields::one_at(s, at);
+    read_fields::tested(n, code_test(last, read_fields::number(n)), at)
 }
 
 // An argument count.
 pub fn count_at(s: &[u8], at: usize, sh: Shape) -> Num
     ensures { λ r. ⌜ res r ≡ field 1 (count-test sh) (now (s .entry)) at ⌝ }
 {
-    match read_fields::one_at(s, at) {
-        Num::Is(x, p) => read_fields::judged(count_test(sh, x), x, p, at),
-        Num::No(k, o) => Num::No(k, o),
-    }
+    let n = read_fields::one_at(s, at);
+    read_fields::tested(n, count_test(sh, read_fields::number(n)), at)
 }
 
 // The bits of a literal of this kind.
 pub fn bits_at(s: &[u8], at: usize, kind: u64) -> Num
     ensures { λ r. ⌜ res r ≡ field 8 (literal-test kind) (now (s .entry)) at ⌝ }
 {
-    match read_fields::eight_at(s, at) {
-        Num::Is(x, p) => read_fields::judged(literal_test(kind, x), x, p, at),
-        Num::No(k, o) => Num::No(k, o),
-    }
+    let n = read_fields::eight_at(s, at);
+    read_fields::tested(n, literal_test(kind, read_fields::number(n)), at)
 }

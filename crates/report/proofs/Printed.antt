@@ -43,14 +43,14 @@ answer-same b c e (got r p) =
     rw e (shown-same new b c k (ltb (length c) (length new)))
 
 -- what is printed depends on the buffer's length alone
-pub prints-same : (b c s : List ℕ) → length b ≡ length c → output-with b s ≡ output-with c s
+prints-same : (b c s : List ℕ) → length b ≡ length c → output-with b s ≡ output-with c s
 unfolding output-with rewrite rewrite-leaves
 prints-same b c s e =
     ap (λ (t : List ℕ). cond (ltb most-input (length s)) (refused-line (record { number = 10; values = most-input ∷ [] })) t)
     (answer-same b c e (accept limits s))
 
 -- so with any buffer of 65,536 bytes it is the program's output
-pub program-prints : (b s : List ℕ) → length b ≡ buffer-size → output-with b s ≡ program-output s
+program-prints : (b s : List ℕ) → length b ≡ buffer-size → output-with b s ≡ program-output s
 unfolding program-output
 program-prints b s e = prints-same b (replicate buffer-size 0) s (e ∙ sym (length-replicate {A = ℕ} buffer-size 0))
 
@@ -59,7 +59,7 @@ pub prints-long : (s : List ℕ) → most-input < length s → program-output s 
 unfolding program-output output-with
 prints-long s h = rw (lt-ltb most-input (length s) h)
 
-pub prints-answer :
+prints-answer :
     (b s : List ℕ) (a : Rewritten) →
     length b ≡ buffer-size →
     length s ≤ most-input →
@@ -116,7 +116,7 @@ written-by room m j n k false q e =
     let h : m ≤ room = ltb-false room m q in
     omega arith
 
-pub written-fits : (s b : List ℕ) (n k : ℕ) → rewrite s b ≡ Written n k → n ≤ length b
+written-fits : (s b : List ℕ) (n k : ℕ) → rewrite s b ≡ Written n k → n ≤ length b
 unfolding rewrite rewrite-result
 written-fits s b n k e = go (accept limits s) e
   where

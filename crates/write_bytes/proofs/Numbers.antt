@@ -48,7 +48,7 @@ module _ (x q p : ℕ) (hq : 0 < q) (hp : 0 < p) where
   mod-both-mod : x % (q * p) % p ≡ x % p
   mod-both-mod = ap (λ (n : ℕ). n % p) mod-both ∙ mul-add-mod-self-right (x / p % q) p (x % p) ∙ mod-mod x p
 
-pub be-append : (a b x : ℕ) → be (suc (both a b)) x ≡ be (suc a) (x / 256 ^ suc b) ++ be (suc b) (x % 256 ^ suc b)
+be-append : (a b x : ℕ) → be (suc (both a b)) x ≡ be (suc a) (x / 256 ^ suc b) ++ be (suc b) (x % 256 ^ suc b)
 unfolding be
 be-append zero b x = refl
 be-append (suc a) b x =

@@ -29,9 +29,6 @@ unfolding put
 put-out l i [] h = refl
 put-out l i (x ∷ xs) h = ap (λ (m : List ℕ). put m (i + 1) xs) (set-out l i x h) ∙ put-out l (i + 1) xs (omega arith)
 
-pub put-nothing : (i : ℕ) (xs : List ℕ) → put [] i xs ≡ []
-put-nothing i xs = put-out [] i xs (omega arith)
-
 -- ---- at other places
 pub set-put : (l : List ℕ) (i j x : ℕ) (ys : List ℕ) → i < j → put (set l i x) j ys ≡ set (put l j ys) i x
 unfolding put
@@ -39,7 +36,7 @@ set-put l i j x [] h = refl
 set-put l i j x (y ∷ ys) h =
     ap (λ (m : List ℕ). put m (j + 1) ys) (set-comm l i j x y (λ e. omega arith)) ∙ set-put (set l j y) i (j + 1) x ys (omega arith)
 
-pub put-swap : (l : List ℕ) (i j : ℕ) (xs ys : List ℕ) → i + length xs ≤ j → put (put l i xs) j ys ≡ put (put l j ys) i xs
+put-swap : (l : List ℕ) (i j : ℕ) (xs ys : List ℕ) → i + length xs ≤ j → put (put l i xs) j ys ≡ put (put l j ys) i xs
 unfolding put
 put-swap l i j [] ys h = refl
 put-swap l i j (x ∷ xs) ys h =
@@ -83,7 +80,7 @@ unfolding put
 put-sets l i [] = refl
 put-sets l i (x ∷ xs) = ap (λ (k : ℕ). put (set l i x) k xs) (add-one i) ∙ put-sets (set l i x) (suc i) xs
 
-pub put-split : (l : List ℕ) (i : ℕ) (xs : List ℕ) → i + length xs ≤ length l → put l i xs ≡ take i l ++ (xs ++ drop (i + length xs) l)
+put-split : (l : List ℕ) (i : ℕ) (xs : List ℕ) → i + length xs ≤ length l → put l i xs ≡ take i l ++ (xs ++ drop (i + length xs) l)
 put-split l i xs h = put-sets l i xs ∙ sets-eq xs l i h ∙ append-assoc (take i l) xs (drop (i + length xs) l)
 
 -- what was written stands there

@@ -18,3 +18,11 @@ pub record Wrote (l m : List ℕ) (i p : ℕ) (bs : List ℕ) : Type 0 where
 -- the widths of an id
 abbrev pub IdWidth : ℕ → Type 0
 IdWidth w = (w ≡ 4) ⊎ (w ≡ 8)
+
+-- the longest text from which a made name's is written: with what is added, its length still has one byte
+abbrev pub longest-text : ℕ
+longest-text = 200
+
+-- no rewriting makes more names: 64 blocks of 256 instructions
+abbrev pub most-made : ℕ
+most-made = 16384

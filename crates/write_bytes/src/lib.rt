@@ -5,7 +5,8 @@ ghost use Prim.Native.Nat.{_+_, _-_, _^_, _<_, _≤_};
 ghost use lib.ListN.{length, take, drop};
 ghost use Rattle.record.specs.Write.{be, name-bytes};
 ghost use Rattle.numbering.specs.Made.{digits, made-text};
-ghost use Rattle.write_bytes.specs.Put.{put, Wrote, IdWidth};
+ghost use Rattle.read_fields.specs.Places.{places};
+ghost use Rattle.write_bytes.specs.Put.{put, Wrote, IdWidth, longest-text, most-made};
 
 // One byte.
 pub fn put_u8(out: &mut [u8], at: usize, x: u8)
@@ -18,7 +19,7 @@ pub fn put_u8(out: &mut [u8], at: usize, x: u8)
 
 // Numbers of two, four and eight bytes, the first the greatest.
 pub fn put_u16(out: &mut [u8], at: usize, x: u16)
-    requires { ⌜ at + 1 < 18446744073709551616 ⌝ }
+    requires { ⌜ at + 1 < places ⌝ }
     ensures { λ _. ⌜ now (out .exit) ≡ put (now (out .entry)) at (be 2 x) ⌝ }
 {
     put_u8(out, at, (x / 256) as u8);
@@ -26,7 +27,7 @@ pub fn put_u16(out: &mut [u8], at: usize, x: u16)
 }
 
 pub fn put_u32(out: &mut [u8], at: usize, x: u32)
-    requires { ⌜ at + 3 < 18446744073709551616 ⌝ }
+    requires { ⌜ at + 3 < places ⌝ }
     ensures { λ _. ⌜ now (out .exit) ≡ put (now (out .entry)) at (be 4 x) ⌝ }
 {
     put_u16(out, at, (x / 65536) as u16);
@@ -34,7 +35,7 @@ pub fn put_u32(out: &mut [u8], at: usize, x: u32)
 }
 
 pub fn put_u64(out: &mut [u8], at: usize, x: u64)
-    requires { ⌜ at + 7 < 18446744073709551616 ⌝ }
+    requires { ⌜ at + 7 < places ⌝ }
     ensures { λ _. ⌜ now (out .exit) ≡ put (now (out .entry)) at (be 8 x) ⌝ }
 {
     put_u32(out, at, (x / 4294967296) as u32);
@@ -43,7 +44,7 @@ pub fn put_u64(out: &mut [u8], at: usize, x: u64)
 
 // x in w bytes: an id.
 pub fn put_word(out: &mut [u8], at: usize, w: usize, x: u64)
-    requires { ⌜ (at + 7 < 18446744073709551616) × (IdWidth w × (x < 256 ^ w)) ⌝ }
+    requires { ⌜ (at + 7 < places) × (IdWidth w × (x < 256 ^ w)) ⌝ }
     ensures { λ _. ⌜ now (out .exit) ≡ put (now (out .entry)) at (be w x) ⌝ }
 {
     if w == 8 {
@@ -54,7 +55,7 @@ pub fn put_word(out: &mut [u8], at: usize, w: usize, x: u64)
 }
 
 // How many of the n places from `at` on are below `end`.
-fn below(n: usize, at: usize, end: usize) -> usize
+fn room_for(n: usize, at: usize, end: usize) -> usize
     ensures { λ r. ⌜ (r ≤ n) × ((r ≤ end - at) × ((n ≤ end - at → r ≡ n) × (end - at ≤ n → r ≡ end - at))) ⌝ }
 {
     if end <= at {
@@ -85,18 +86,18 @@ fn store_bytes(src: &[u8], from: usize, n: usize, out: &mut [u8], at: usize)
 
 // n bytes of src, or as many as there are; the place behind them.
 pub fn copy_bytes(src: &[u8], from: usize, n: usize, out: &mut [u8], at: usize) -> usize
-    requires { ⌜ (from < 5000000000) × ((n < 4294967296) × (at < 4294967296)) ⌝ }
+    requires { ⌜ at + n < places ⌝ }
     ensures { λ r. ⌜ Wrote (now (out .entry)) (now (out .exit)) at r (take n (drop from (now (src .entry)))) × (r ≤ at + n) ⌝ }
 {
-    let m = below(n, from, src.len());
-    let k = below(m, at, out.len());
+    let m = room_for(n, from, src.len());
+    let k = room_for(m, at, out.len());
     store_bytes(src, from, k, out, at);
     at + m
 }
 
 // The decimal digits of k; the place behind them.
 pub fn put_digits(out: &mut [u8], at: usize, k: u64) -> usize
-    requires { ⌜ at < 4294967296 ⌝ }
+    requires { ⌜ at + 21 < places ⌝ }
     ensures { λ r. ⌜ Wrote (now (out .entry)) (now (out .exit)) at r (digits k) × (r ≤ at + 20) ⌝ }
 {
     if k < 10 {
@@ -130,7 +131,7 @@ pub fn count_digits(k: u64) -> usize
 
 // The text of the name made with K = k of the n bytes of src: `_`, they, `_lvn` and the digits of k.
 fn put_made_text(out: &mut [u8], at: usize, src: &[u8], from: usize, n: usize, k: u64) -> usize
-    requires { ⌜ (at < 4294967000) × ((from < 5000000000) × ((n ≤ 200) × (k < 16384))) ⌝ }
+    requires { ⌜ (at + 255 < places) × ((n ≤ longest-text) × (k < most-made)) ⌝ }
     ensures { λ r. ⌜ Wrote (now (out .entry)) (now (out .exit)) at r (made-text (take n (drop from (now (src .entry)))) k) × (r ≤ at + 215) ⌝ }
 {
     put_u8(out, at, b'_');
@@ -149,7 +150,7 @@ pub fn put_made(
     n: usize,
     k: u64,
 ) -> usize
-    requires { ⌜ (at < 4294966000) × ((from < 5000000000) × ((n ≤ 200) × (k < 16384))) ⌝ }
+    requires { ⌜ (at + 257 < places) × ((n ≤ longest-text) × (k < most-made)) ⌝ }
     ensures { λ r.
         ⌜ Wrote (now (out .entry)) (now (out .exit)) at r
         (name-bytes (record { type = ty; text = made-text (take n (drop from (now (src .entry)))) k })) × (r ≤ at + 217) ⌝ }

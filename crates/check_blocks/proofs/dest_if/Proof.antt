@@ -1,16 +1,13 @@
--- `check_blocks::dest_if` meets its contract.
+-- `check_blocks::dest_if` meets its contract: by whether the shape has it.
 use mathlib.Core.Path.{sym, _∙_}
-use borrow.Author.Needs.{needs}
 use Rattle.record.proofs.Following.{there-yes, there-no, index-verdict}
+use borrow.Author.Needs.{needs}
 use Rattle.check_blocks.proofs.dest_if.Statement.{statement}
 use Rattle.check_blocks.proofs.dest_if.Tie as tie
 
-returns : tie.Need-returns
-returns c =
-    c .index-at .ensures ∙ sym (index-verdict _ _ _) ∙ there-yes _ _ _ _ _ (c .before .if1 .taken)
-
-returns-2 : tie.Need-returns-2
-returns-2 c = there-no _ _ _ _ _ (c .if1 .left)
-
 pub dest-if-spec : {M : Type 1} → statement M
-dest-if-spec = tie.close (tie.spec (λ c κs. search needs) returns returns-2)
+dest-if-spec =
+    tie.close
+    (tie.spec (λ c κs. search needs)
+    (λ c. c .index-at .ensures ∙ sym (index-verdict _ _ _) ∙ there-yes _ _ _ _ _ (c .before .if1 .taken))
+    (λ c. there-no _ _ _ _ _ (c .if1 .left)))

@@ -14,7 +14,7 @@ returns c =
     passed _ _ _ _ _ _ (sym (e .before .before .names-at .ensures) ∙ e .p .given .1) (λ xs.
     read-is _ _ _ _ _ _ _
     (sym (c .before .before .before .before .two-limited .ensures) ∙ ap res (c .before .before .b .given .1))
-    (c .blocks-at .ensures))
+    (c .check-blocks .ensures))
 
 returns-2 : tie.Need-returns-2
 unfolding names-and-blocks

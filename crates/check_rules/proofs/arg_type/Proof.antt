@@ -1,3 +1,4 @@
+-- `check_rules::arg_type` meets its contract: by whether there is such an argument.
 use borrow.Author.Needs.{needs}
 use Rattle.check_rules.proofs.Laws.{arg-there, arg-past}
 use Rattle.check_rules.proofs.arg_type.Statement.{statement}
@@ -6,7 +7,7 @@ use Rattle.check_rules.proofs.arg_type.Tie as tie
 returns : tie.Need-returns
 returns c =
     let n = c .before .before .byte-or .ensures .0 in
-    (arg-there _ _ _ _ _ _ n (c .before .if1 .taken) (c .type-at .ensures .0), c .type-at .ensures .1)
+    (arg-there _ _ _ _ _ _ n (c .before .if1 .taken) (c .index-type .ensures .0), c .index-type .ensures .1)
 
 returns-2 : tie.Need-returns-2
 returns-2 c =

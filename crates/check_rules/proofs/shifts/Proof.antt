@@ -1,31 +1,13 @@
-use borrow.Author.Needs.{needs}
+-- `check_rules::shifts` meets its contract: by the types that the rule asks for.
 use mathlib.Core.Path.{refl}
-use Rattle.record.proofs.Following.{and-settled, and-other}
-use borrow.Author.Tests.{eq-eqb, ne-eqb, le-leb, lt-leb}
 use Rattle.check_rules.proofs.Laws.{kept-shifts}
+use borrow.Author.Needs.{needs}
 use Rattle.check_rules.proofs.shifts.Statement.{statement}
 use Rattle.check_rules.proofs.shifts.Tie as tie
-
-returns : tie.Need-returns
-returns c =
-    let w = c .before .before in
-    kept-shifts _ _ _ _ _ _ _ (w .type-at .ensures .0) (w .before .before .arg-type .ensures .0) (w .before .arg-type2 .ensures .0)
-    (and-other _ _ _ (le-leb _ _ (c .before .if1 .taken)) (and-other _ _ _ (eq-eqb _ _ (c .if2 .taken)) refl))
-
-returns-2 : tie.Need-returns-2
-returns-2 c =
-    let w = c .before .before in
-    kept-shifts _ _ _ _ _ _ _ (w .type-at .ensures .0) (w .before .before .arg-type .ensures .0) (w .before .arg-type2 .ensures .0)
-    (and-other _ _ _ (le-leb _ _ (c .before .if1 .taken)) (and-settled _ _ _ (ne-eqb _ _ (c .if2 .left)) refl))
-
-returns-3 : tie.Need-returns-3
-returns-3 c =
-    let w = c .before in
-    kept-shifts _ _ _ _ _ _ _ (w .type-at .ensures .0) (w .before .before .arg-type .ensures .0) (w .before .arg-type2 .ensures .0)
-    (and-settled _ _ _ (lt-leb _ _ (c .if1 .left)) refl)
 
 pub shifts-spec : {M : Type 1} → statement M
 shifts-spec =
     tie.close
-    (tie.spec (λ c. search needs) (λ c κs. search needs) (λ c. search needs) (λ c κs. search needs)
-    (λ c κs. search needs) returns returns-2 returns-3)
+    (tie.spec (λ c. search needs) (λ c κs. search needs) (λ c. search needs) (λ c κs. search needs) (λ c κs. search needs)
+    (λ c. kept-shifts _ _ _ _ _ _ _ (c .index-type .ensures .0) (c .before .before .arg-type .ensures .0)
+    (c .before .arg-type2 .ensures .0) refl))

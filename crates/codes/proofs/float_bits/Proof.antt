@@ -1,3 +1,4 @@
+-- `codes::float_bits` meets its contract: by whether it is a NaN.
 use borrow.Author.Needs.{needs}
 use Rattle.codes.proofs.Literal.{nan-bits, no-nan}
 use Rattle.codes.proofs.float_bits.Statement.{statement}

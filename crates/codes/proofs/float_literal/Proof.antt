@@ -1,3 +1,4 @@
+-- `codes::float_literal` meets its contract: by whether the bits are those of a NaN.
 use borrow.Author.Needs.{needs}
 use mathlib.Core.Path.{_≡_, _∙_, refl, sym}
 use mathlib.Core.Bool.{false}

@@ -1,3 +1,4 @@
+-- `codes::literal_of` meets its contract: by the kind.
 use mathlib.Core.Path.{_≡_, refl, sym, ap, _∙_}
 use native.Mathlib.Omega.{arith}
 use mir.Syntax.{w64}

@@ -1,3 +1,4 @@
+-- `demands::rewrite_as_demanded` meets its contract: by the contract of rewrite and the theorems about the definitions.
 use borrow.Author.Needs.{needs}
 use native.Mathlib.Omega.{arith}
 use Rattle.pairing.proofs.Contract.{contract-meets-demands}

@@ -1,3 +1,4 @@
+-- `exports::lvn_name_text` meets its contract: what is found leaves its number and its place.
 use borrow.Author.Needs.{needs}
 use Rattle.write_bytes.specs.Put.{put}
 use Rattle.exports.proofs.Laws.{name-left}

@@ -1,6 +1,5 @@
 -- `filter::run` is safe: what it writes lies in the buffer.
 use mathlib.Core.Path.{sym}
-use native.Mathlib.Omega.{arith}
 use lib.Seq.{length-take-le}
 use borrow.Author.Needs.{needs}
 use Rattle.filter.proofs.run.Statement.{statement}

@@ -17,7 +17,7 @@ put-instr-requires : tie.Need-put-instr-requires
 put-instr-requires c κs =
     let c5 = c .before .before .before .before .before in
     let e = c .save-instr .ensures in
-    (c5 .pre .0, (c5 .pre .1 .0, (subst (λ (n : ℕ). n < 256 ^ c5 .args .w) (sym (e .1 .0)) (c5 .pre .1 .1), e .1 .1)))
+    (omega (arith, c5 .pre .0), (c5 .pre .1 .0, (subst (λ (n : ℕ). n < 256 ^ c5 .args .w) (sym (e .1 .0)) (c5 .pre .1 .1), e .1 .1)))
 
 returns-2 : tie.Need-returns-2
 returns-2 c =

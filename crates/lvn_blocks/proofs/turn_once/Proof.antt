@@ -14,8 +14,8 @@ use Rattle.lvn_blocks.proofs.Turned.{lvn-id, turned}
 use Rattle.lvn_blocks.proofs.turn_once.Statement.{statement}
 use Rattle.lvn_blocks.proofs.turn_once.Tie as tie
 
-instr-at-requires : tie.Need-instr-at-requires
-instr-at-requires c κs =
+read-instr-requires : tie.Need-read-instr-requires
+read-instr-requires c κs =
     let c9 = c .before .before .before .before .before .before .before .before .before in
     let a = c9 .args in
     let p = c9 .pre in
@@ -28,7 +28,7 @@ instr-lvn-requires c κs =
     let p = c15 .pre in
     let f = p .0 in
     let tables = p .1 .1 .1 .0 in (
-      ready (f .names) (p .1 .1 .1 .1 .ok) (c5 .instr-at .ensures),
+      ready (f .names) (p .1 .1 .1 .1 .ok) (c5 .read-instr .ensures),
       (omega (arith, f .room), (omega (arith, f .made, f .names), (p .1 .1 .0, (tables .heads, tables .nums)))),
     )
 
@@ -41,7 +41,7 @@ put-lines-requires c κs =
     let c31 = c21 .before .before .before .before .before .before .before .before .before .before in
     let a = c31 .args in
     let p = c31 .pre in
-    let g = c21 .instr-at in
+    let g = c21 .read-instr in
     let e = c15 .instr-lvn in
     let st = state-of (a .env .now) (a .homes .now) (a .t .st) (a .heads .now) (a .nums .now) in
     let ty = type-in (a .types .now) in
@@ -62,7 +62,7 @@ returns c =
     let c25 = c19 .before .before .before .before .before .before in
     let c35 = c25 .before .before .before .before .before .before .before .before .before .before in
     let a = c35 .args in
-    let g = c25 .instr-at in
+    let g = c25 .read-instr in
     let e = c19 .instr-lvn in
     let o = c3 .put-lines .ensures in
     turned (type-in (a .types .now)) (a .t) (g .result) (e .result) (a .env .now) (a .homes .now) (a .heads .now) (a .nums .now)
@@ -72,5 +72,5 @@ returns c =
 pub turn-once-spec : {M : Type 1} → statement M
 turn-once-spec =
     tie.close
-    (tie.spec instr-at-requires instr-lvn-requires (λ c κs. search needs) put-lines-requires (λ c. search needs)
+    (tie.spec read-instr-requires instr-lvn-requires (λ c κs. search needs) put-lines-requires (λ c. search needs)
     (λ c. search needs) (λ c. search needs) (λ c. search needs) (λ c. search needs) (λ c. search needs) returns)

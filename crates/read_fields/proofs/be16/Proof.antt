@@ -1,11 +1,8 @@
--- `read_fields::be16` meets its contract.
+-- `read_fields::be16` meets its contract: the number that was read, or that of its two bytes.
 use Prim.Native.Nat.{_+_}
-use mathlib.Core.Path.{_≡_, sym, ap, _∙_}
 use native.Mathlib.Omega.{arith}
+use Rattle.read_fields.proofs.Laws.{number-read}
 use borrow.Author.Needs.{needs}
-use Rattle.record.specs.Reader.{num-at}
-use Rattle.read_fields.specs.Answer.{res}
-use Rattle.read_fields.proofs.Laws.{number}
 use Rattle.read_fields.proofs.be16.Statement.{statement}
 use Rattle.read_fields.proofs.be16.Tie as tie
 
@@ -13,9 +10,8 @@ returns : tie.Need-returns
 returns c =
     let w = c .before .before .before in
     let a = w .before .before .args in
-    let e : c .before .x .given .0 .0 ≡ num-at (a .s .now) (a .at) 2 =
-    number (a .s .now) (a .at) 2 _ _ (sym (ap res (c .before .x .given .1)) ∙ w .two-at .ensures) in
     let byte = w .before .shared-slice-known .given in
+    let e = number-read (a .s .now) (a .at) 2 (w .two-at .ensures) (c .before .x .given .1) in
     (e, omega (arith, byte (a .at), byte (a .at + 1)))
 
 pub be16-spec : {M : Type 1} → statement M

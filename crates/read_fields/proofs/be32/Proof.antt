@@ -1,11 +1,8 @@
--- `read_fields::be32` meets its contract.
+-- `read_fields::be32` meets its contract: the number that was read, or that of its halves.
 use Prim.Native.Nat.{_+_}
-use mathlib.Core.Path.{_≡_, sym, ap, _∙_}
 use native.Mathlib.Omega.{arith}
+use Rattle.read_fields.proofs.Laws.{number-read, four-halves}
 use borrow.Author.Needs.{needs}
-use Rattle.record.specs.Reader.{num-at}
-use Rattle.read_fields.specs.Answer.{res}
-use Rattle.read_fields.proofs.Laws.{number, four-halves}
 use Rattle.read_fields.proofs.be32.Statement.{statement}
 use Rattle.read_fields.proofs.be32.Tie as tie
 
@@ -13,15 +10,14 @@ returns : tie.Need-returns
 returns c =
     let w = c .before .before .before in
     let a = w .before .before .args in
-    let e : c .before .x .given .0 .0 ≡ num-at (a .s .now) (a .at) 4 =
-    number (a .s .now) (a .at) 4 _ _ (sym (ap res (c .before .x .given .1)) ∙ w .four-at .ensures) in
     let byte = w .before .shared-slice-known .given in
+    let e = number-read (a .s .now) (a .at) 4 (w .four-at .ensures) (c .before .x .given .1) in
     (e, omega (arith, byte (a .at), byte (a .at + 1), byte (a .at + 1 + 1), byte (a .at + 1 + 1 + 1)))
 
 returns-2 : tie.Need-returns-2
 returns-2 c =
     let a = c .before .before .before .before .before .before .args in
-    (simp (c .be162 .ensures .0, c .before .be16 .ensures .0) (sym (four-halves (a .s .now) (a .at))), omega arith)
+    (four-halves (a .s .now) (a .at) (c .before .be16 .ensures .0) (c .be162 .ensures .0), omega arith)
 
 pub be32-spec : {M : Type 1} → statement M
 be32-spec =

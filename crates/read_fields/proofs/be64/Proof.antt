@@ -1,8 +1,6 @@
--- `read_fields::be64` meets its contract.
-use mathlib.Core.Path.{sym, ap, _∙_}
+-- `read_fields::be64` meets its contract: the number that was read, or that of its halves.
+use Rattle.read_fields.proofs.Laws.{number-read, eight-halves}
 use borrow.Author.Needs.{needs}
-use Rattle.read_fields.specs.Answer.{res}
-use Rattle.read_fields.proofs.Laws.{number, eight-halves}
 use Rattle.read_fields.proofs.be64.Statement.{statement}
 use Rattle.read_fields.proofs.be64.Tie as tie
 
@@ -10,12 +8,12 @@ returns : tie.Need-returns
 returns c =
     let w = c .before .before .before in
     let a = w .before .before .args in
-    number (a .s .now) (a .at) 8 _ _ (sym (ap res (c .before .x .given .1)) ∙ w .eight-at .ensures)
+    number-read (a .s .now) (a .at) 8 (w .eight-at .ensures) (c .before .x .given .1)
 
 returns-2 : tie.Need-returns-2
 returns-2 c =
     let a = c .before .before .before .before .before .before .args in
-    simp (c .be322 .ensures .0, c .before .be32 .ensures .0) (sym (eight-halves (a .s .now) (a .at)))
+    eight-halves (a .s .now) (a .at) (c .before .be32 .ensures .0) (c .be322 .ensures .0)
 
 pub be64-spec : {M : Type 1} → statement M
 be64-spec =

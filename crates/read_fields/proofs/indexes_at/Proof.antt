@@ -1,4 +1,4 @@
--- `read_fields::indexes_at` meets its contract. The invariant: the rest from here gives the whole answer.
+-- `read_fields::indexes_at` meets its contract: the rest from here gives the whole answer.
 use mathlib.Core.Path.{_≡_, refl, sym, _∙_}
 use native.Mathlib.Omega.{arith}
 use borrow.Author.Needs.{needs}

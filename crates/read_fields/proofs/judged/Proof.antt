@@ -1,4 +1,4 @@
--- `read_fields::judged` meets its contract.
+-- `read_fields::judged` meets its contract: by the test.
 use mathlib.Core.Path.{sym, ap}
 use borrow.Author.Needs.{needs}
 use Rattle.record.specs.Reader.{got, judge}

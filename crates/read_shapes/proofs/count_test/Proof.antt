@@ -1,22 +1,10 @@
--- `read_shapes::count_test` meets its contract.
-use mathlib.Core.Path.{ap, _∙_}
-use mathlib.Core.Logic.{⊎-elim}
+-- `read_shapes::count_test` meets its contract: it is the definition.
+use Rattle.record.specs.Tests.{count-test}
 use borrow.Author.Needs.{needs}
-use borrow.Author.Tests.{le-leb, lt-leb}
-use Rattle.record.specs.declared.Refusal.the-variants.{Limit}
-use Rattle.record.specs.Tests.{need, count-test}
-use Rattle.record.proofs.Following.{and-settled, and-other}
 use Rattle.read_shapes.proofs.count_test.Statement.{statement}
 use Rattle.read_shapes.proofs.count_test.Tie as tie
 
-returns : tie.Need-returns
-unfolding count-test
-returns c =
-    c .need .ensures ∙ ap (λ b. need b Limit)
-    (⊎-elim
-    (λ v. and-other _ _ _ (le-leb _ _ (v .0 .taken)) (v .1))
-    (λ v. and-settled _ _ _ (lt-leb _ _ (v .0 .left)) (v .1))
-    (c .before .if1 .came))
-
 pub count-test-spec : {M : Type 1} → statement M
-count-test-spec = tie.close (tie.spec (λ c. search needs) (λ c. search needs) (λ c κs. search needs) returns)
+unfolding count-test
+count-test-spec =
+    tie.close (tie.spec (λ c. search needs) (λ c. search needs) (λ c κs. search needs) (λ c. c .need .ensures))

@@ -1,28 +1,17 @@
--- `read_shapes::pure_shape` meets its contract.
+-- `read_shapes::pure_shape` meets its contract: each arm is a row of the table of shapes.
 use mathlib.Core.Path.{refl, _∙_}
 use native.Mathlib.Omega.{arith}
-use borrow.Author.Needs.{needs}
 use Rattle.read_shapes.proofs.Laws.{shape-row}
+use borrow.Author.Needs.{needs}
 use Rattle.read_shapes.proofs.pure_shape.Statement.{statement}
 use Rattle.read_shapes.proofs.pure_shape.Tie as tie
-
-returns : tie.Need-returns
-returns c = c .value .ensures ∙ shape-row 2 10 10 _ _ _ refl refl (omega arith) (omega arith)
-
-returns-2 : tie.Need-returns-2
-returns-2 c = c .value2 .ensures ∙ shape-row 4 13 13 _ _ _ refl refl (omega arith) (omega arith)
-
-returns-3 : tie.Need-returns-3
-returns-3 c = c .value3 .ensures ∙ shape-row 1 1 9 _ _ _ refl refl (omega arith) (omega arith)
-
-returns-4 : tie.Need-returns-4
-returns-4 c = c .value4 .ensures ∙ shape-row 3 11 12 _ _ _ refl refl (omega arith) (omega arith)
-
-returns-5 : tie.Need-returns-5
-returns-5 c = c .value5 .ensures ∙ shape-row 5 14 14 _ _ _ refl refl (omega arith) (omega arith)
 
 pub pure-shape-spec : {M : Type 1} → statement M
 pure-shape-spec =
     tie.close
-    (tie.spec (λ c κs. search needs) (λ c κs. search needs) (λ c κs. search needs) (λ c κs. search needs)
-    (λ c κs. search needs) returns returns-2 returns-3 returns-4 returns-5)
+    (tie.spec (λ c κs. search needs) (λ c κs. search needs) (λ c κs. search needs) (λ c κs. search needs) (λ c κs. search needs)
+    (λ c. c .value .ensures ∙ shape-row 2 10 10 _ _ _ refl refl (omega arith) (omega arith))
+    (λ c. c .value2 .ensures ∙ shape-row 4 13 13 _ _ _ refl refl (omega arith) (omega arith))
+    (λ c. c .value3 .ensures ∙ shape-row 1 1 9 _ _ _ refl refl (omega arith) (omega arith))
+    (λ c. c .value4 .ensures ∙ shape-row 3 11 12 _ _ _ refl refl (omega arith) (omega arith))
+    (λ c. c .value5 .ensures ∙ shape-row 5 14 14 _ _ _ refl refl (omega arith) (omega arith)))

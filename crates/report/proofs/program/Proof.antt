@@ -1,4 +1,4 @@
--- `report::program` meets its contract.
+-- `report::program` meets its contract: by what rewrite answers.
 use mathlib.Core.Path.{sym, _∙_}
 use mathlib.Core.List.{[], _∷_}
 use native.Mathlib.Omega.{arith}

@@ -1,4 +1,4 @@
--- `report::put_refusal` meets its contract.
+-- `report::put_refusal` meets its contract: its parts, one behind the other.
 use Prim.Native.Nat.{_≤_}
 use native.Mathlib.Omega.{arith}
 use lib.ListN.{length}

@@ -1,3 +1,4 @@
+-- `write_bytes::put_digits` meets its contract: the digits before the last, then the last; k falls.
 use borrow.Author.Needs.{needs}
 use native.Mathlib.Omega.{arith}
 use Prim.Native.Nat.{ℕ, _<_, _≤_}

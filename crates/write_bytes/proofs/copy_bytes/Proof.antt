@@ -1,3 +1,4 @@
+-- `write_bytes::copy_bytes` meets its contract: as many as there are, and of those the ones that have room.
 use borrow.Author.Needs.{needs}
 use native.Mathlib.Omega.{arith}
 use Rattle.write_bytes.proofs.Copies.{copied}
@@ -10,9 +11,9 @@ returns c =
     let room = stored .before .before in
     let there = room .before in
     let a = there .before .before .before .args in (
-      copied (a .src .now) (a .out .now) (a .from) (a .n) (a .at) _ _ (there .below .ensures) (room .below2 .ensures)
+      copied (a .src .now) (a .out .now) (a .from) (a .n) (a .at) _ _ (there .room-for .ensures) (room .room-for2 .ensures)
           (stored .store-bytes .ensures),
-      omega (arith, there .below .ensures .0),
+      omega (arith, there .room-for .ensures .0),
     )
 
 pub copy-bytes-spec : {M : Type 1} → statement M

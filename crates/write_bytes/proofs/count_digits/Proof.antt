@@ -1,3 +1,4 @@
+-- `write_bytes::count_digits` meets its contract: by the powers of ten.
 use mathlib.Core.Path.{sym, ap}
 use native.Mathlib.Omega.{arith}
 use lib.ListN.{length}

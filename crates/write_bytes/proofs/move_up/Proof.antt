@@ -1,3 +1,4 @@
+-- `write_bytes::move_up` meets its contract: what is left to move gives the whole answer.
 use borrow.Author.Needs.{needs}
 use Prim.Native.Nat.{suc, _-_, _≤_}
 use mathlib.Core.Path.{_≡_, refl, ap, _∙_}

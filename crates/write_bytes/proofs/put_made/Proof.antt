@@ -1,3 +1,4 @@
+-- `write_bytes::put_made` meets its contract: the text is written first, and its length then in front of it.
 use lib.ListN.{take, drop}
 use borrow.Author.Needs.{needs}
 use Rattle.write_bytes.proofs.Made.{name-wrote}

@@ -1,3 +1,4 @@
+-- `write_bytes::put_made_text` meets its contract: its parts, one behind the other.
 use Prim.Native.Nat.{_≤_}
 use native.Mathlib.Omega.{arith}
 use lib.ListN.{length, take, drop}

@@ -1,3 +1,4 @@
+-- `write_bytes::put_u8` meets its contract: past the end nothing is stored.
 use lib.Seq.{set-out}
 use mathlib.Core.Path.{sym}
 use borrow.Author.Needs.{needs}

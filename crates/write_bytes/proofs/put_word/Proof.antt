@@ -1,3 +1,4 @@
+-- `write_bytes::put_word` meets its contract: by the width of an id.
 use native.Mathlib.Omega.{arith}
 use mathlib.Core.Path.{_≡_, sym, ap, _∙_}
 use Prim.Native.Nat.{ℕ, _^_, _<_}

@@ -1,3 +1,4 @@
+-- `write_bytes::store_bytes` meets its contract: what is left to store gives the whole answer.
 use borrow.Author.Needs.{needs}
 use Prim.Native.Nat.{_+_, _<_, _≤_}
 use mathlib.Core.Path.{_≡_, refl}

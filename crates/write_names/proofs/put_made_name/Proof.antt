@@ -11,7 +11,7 @@ put-made-requires c κs =
     let a = w .before .before .before .before in
     let p = w .name-place .ensures .0 ∙ a .pre .1 .1 .1 .1 _ (a .pre .1 .0) in (
       search needs,
-      (search needs, (text-short _ _ _ _ p (b .byte-or2 .ensures .0) (a .pre .1 .1 .0), search needs)),
+      (text-short _ _ _ _ p (b .byte-or2 .ensures .0) (a .pre .1 .1 .0), search needs),
     )
 
 returns : tie.Need-returns

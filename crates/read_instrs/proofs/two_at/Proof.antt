@@ -1,9 +1,0 @@
-use borrow.Author.Needs.{needs}
-use Rattle.read_instrs.proofs.two_at.Statement.{statement}
-use Rattle.read_instrs.proofs.two_at.Tie as tie
-
-returns : tie.Need-returns
-returns c = rw (c .before .if1 .taken) (c .be16 .ensures .0)
-
-pub two-at-spec : {M : Type 1} → statement M
-two-at-spec = tie.close (tie.spec (λ c κs. search needs) (λ c. search needs) returns (λ c. search needs))
