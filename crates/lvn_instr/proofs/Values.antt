@@ -17,7 +17,6 @@ use Rattle.arith.specs.Value.{Val, int, literal, bool}
 use Rattle.arith.specs.Operation.{Expr, constant, one, two}
 use Rattle.record.specs.declared.NameIx.{NameIx}
 use Rattle.record.specs.declared.Literal.{Literal}
-use Rattle.record.specs.declared.Literal.the-variants as literals
 use Rattle.record.specs.declared.Op.{Op}
 use Rattle.record.specs.declared.Op.the-variants as ops
 use Rattle.record.specs.declared.Instruction.{Instruction}
@@ -25,7 +24,6 @@ use Rattle.record.specs.Record.{nm, Instr}
 use Rattle.record.specs.Form.{value-of, form}
 use Rattle.record.specs.Answer.{literal-of}
 use Rattle.record.specs.View.{instr-of}
-use Rattle.record.proofs.Literal as Literals
 use Rattle.record.proofs.Op as Ops
 use Rattle.numbering.specs.declared.ValNum.{ValNum}
 use Rattle.numbering.specs.State.{vn, State, number-of, home-of, known-expr, known}
@@ -54,14 +52,6 @@ module _ (s : State) (t : ℕ) where
   unfolding make-val value-of numbered
   const-bool true = refl
   const-bool false = refl
-
-  pub const-new : (l : Literal) → OneOf (2 ∷ 3 ∷ 4 ∷ []) (tagOf Literals.the-type l) → none ≡ const-of s t l
-  unfolding make-val value-of numbered literal-of
-  const-new (literals.Int z) h = absurd (miss (2 ∷ 3 ∷ 4 ∷ []) 0 tt h)
-  const-new (literals.Bool b) h = absurd (miss (2 ∷ 3 ∷ 4 ∷ []) 1 tt h)
-  const-new (literals.Float x) h = refl
-  const-new (literals.Nan b) h = refl
-  const-new (literals.Char c) h = refl
 
 -- ---- the numbers of operands are numbers
 numbered-any : (n : ℕ) (b : Bool) (v : Val) → MaybeOk Any n (cond b (some (constant v)) none)

@@ -79,10 +79,6 @@ abbrev pub Any : Val → Type 0
 Any v = Unit {0}
 
 -- ---- what is written
--- a const under the id and dest of i
-abbrev pub const-as : Instr → Lit → Instr
-const-as i l = record { id = i .id; code = 0; dest = i .dest; lit = l; args = []; callee = 0; blocks = [] }
-
 -- the instruction of a value expression; one that is new each time stays
 abbrev pub written-as : State → Instr → Option (Expr ValNum) → Instr
 written-as s i none = i

@@ -27,4 +27,4 @@ returns-4 c = let a = c .before .before .before .args in
     known-word (a .head) (a .num) e (c .if3 .left)
 
 pub known-entry-spec : {M : Type 1} → statement M
-known-entry-spec = tie.close (tie.spec (λ c. search needs) returns (λ c. search needs) returns-2 returns-3 returns-4)
+known-entry-spec = tie.close (tie.spec returns returns-2 returns-3 returns-4)
