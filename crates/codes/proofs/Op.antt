@@ -114,14 +114,13 @@ module _ (t : NameIx → ℕ) (i : Instr) where
       (o : Option One) (p : Option Two) (g : Form) (y : Op) →
       g ≡ form-as y t i →
       operation o p (arg i 0) (arg i 1) g ≡ form-as (operator o p y) t i
-  unfolding form-as
   operator-form (some o) p g y h = refl
   operator-form none (some o) g y h = refl
   operator-form none none g y h = h
 
   -- an instruction has the form of the operation of its code
   pub form-op : form t i ≡ form-as (op-of (i .code)) t i
-  unfolding form form-as op-of
+  unfolding form op-of
   form-op =
       let c = i .code in
       cond-form (eqb c 0) _ _ op.Const _ refl

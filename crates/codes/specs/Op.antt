@@ -30,7 +30,7 @@ op-of c =
     (cond (eqb c 69) op.Nop (op.Effect c)))))))
 
 -- the form of an instruction whose operation this is
-unfoldable pub form-as : Op → (NameIx → ℕ) → Instr → Form
+abbrev pub form-as : Op → (NameIx → ℕ) → Instr → Form
 form-as op.Const t i = pure (constant (value-of (t (i .dest)) (i .lit .kind) (i .lit .bits)))
 form-as (op.One o) t i = pure (one o (arg i 0))
 form-as (op.Two o) t i = pure (two o (arg i 0) (arg i 1))

@@ -30,9 +30,10 @@ use Rattle.numbering.specs.State.{vn, State, number-of, home-of, known-expr, kn
 use Rattle.numbering.specs.Simplify.{simplify1, simplify2, simplify}
 use Rattle.numbering.specs.Number.{numbered, make-val}
 use Rattle.numbering.proofs.Simplified.{Closed, OptionOk, MaybeOk, simplify-ok}
+use Rattle.codes.specs.Op.{form-as}
 use Rattle.lvn_values.specs.Table.{vals-of}
 use Rattle.lvn_state.specs.View.{env-of, locs-of}
-use Rattle.lvn_instr.specs.View.{Ready, Reads, form-as, value-by, Any}
+use Rattle.lvn_instr.specs.View.{Ready, Reads, value-by, Any}
 use Rattle.lvn_instr.proofs.Forms.{instr-form, one-arg, two-args}
 
 -- ---- const
@@ -155,7 +156,7 @@ module _ (i : Instruction) (ready : Ready i) (s : State) (t : NameIx → ℕ) wh
       let xs = two-args i ready o e in
       sym (ap (value-by s) (instr-form i ready t (ops.Two o) e) ∙ (λ j. make-val s (two o (xs .0 j) (xs .1 j))))
 
-  none-of : (o : Op) (j : Instr) → OneOf (3 ∷ 4 ∷ 5 ∷ 6 ∷ 7 ∷ 8 ∷ []) (tagOf Ops.the-type o) → none ≡ value-by s (form-as t o j)
+  none-of : (o : Op) (j : Instr) → OneOf (3 ∷ 4 ∷ 5 ∷ 6 ∷ 7 ∷ 8 ∷ []) (tagOf Ops.the-type o) → none ≡ value-by s (form-as o t j)
   none-of ops.Const j h = absurd (miss (3 ∷ 4 ∷ 5 ∷ 6 ∷ 7 ∷ 8 ∷ []) 0 tt h)
   none-of (ops.One o) j h = absurd (miss (3 ∷ 4 ∷ 5 ∷ 6 ∷ 7 ∷ 8 ∷ []) 1 tt h)
   none-of (ops.Two o) j h = absurd (miss (3 ∷ 4 ∷ 5 ∷ 6 ∷ 7 ∷ 8 ∷ []) 2 tt h)

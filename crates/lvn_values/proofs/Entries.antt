@@ -1,11 +1,11 @@
 -- Only what is written for an expression is read as one, and it is read back.
-use Prim.Native.Nat.{ℕ, zero, suc, _+_, _*_, _/_, _%_, _<_, _≤_}
+use Prim.Native.Nat.{ℕ, zero, suc, _/_, _%_, _<_, _≤_}
 use mathlib.Core.Path.{_≡_, refl, sym, ap, _∙_}
 use mathlib.Core.Bool.{Bool, true, false, cond, _&&_}
 use mathlib.Core.Option.{Option, none, some}
 use native.Mathlib.Omega.{arith}
 use lib.Dec.{eqb}
-use borrow.Author.Tests.{eqb-true, eq-eqb, ne-eqb}
+use borrow.Author.Tests.{eqb-true, eq-eqb}
 use Rattle.arith.proofs.Clash.{clash}
 use Rattle.arith.specs.declared.One.{One}
 use Rattle.arith.specs.declared.One.the-variants.{Not, Id}
@@ -21,7 +21,7 @@ use Rattle.numbering.specs.declared.Constant.the-variants.{Int, IntAsFloat, Boo
 use Rattle.numbering.specs.State.{vn, ValNum-discrete, known-value, known-expr}
 use Rattle.numbering.specs.Number.{same-expr}
 use Rattle.numbering.specs.View.{val-of}
-use Rattle.lvn_values.specs.Table.{packed, int-tag, bool-tag, constant-tag, constant-bits, head-of, num-of, either, constant-for, unpacked, exactly, expr-at}
+use Rattle.lvn_values.specs.Table.{packed, int-tag, bool-tag, constant-tag, constant-bits, head-of, num-of, constant-for, unpacked, exactly, expr-at}
 
 -- ---- both tests of an entry
 and-left : (a b : Bool) → (a && b) ≡ true → a ≡ true
@@ -76,7 +76,11 @@ one-entry o a ha =
     read-back (code1 o) (a .0) 0 0 ha (omega arith) (one o a) (rw (not-two o, one-of-code o)) refl refl
 
 -- a constant, where its tag and its bits are read as it
-constant-at : (v : Val) → constant-for (constant-tag v) (constant-bits v) ≡ some v → two-of (constant-tag v) ≡ none → one-of (constant-tag v) ≡ none →
+constant-at :
+    (v : Val) →
+    constant-for (constant-tag v) (constant-bits v) ≡ some v →
+    two-of (constant-tag v) ≡ none →
+    one-of (constant-tag v) ≡ none →
     expr-at (head-of (constant v)) (num-of (constant v)) ≡ some (constant v)
 unfolding head-of num-of unpacked
 constant-at v e p q =

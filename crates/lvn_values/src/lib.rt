@@ -2,7 +2,7 @@
 // constant.
 ghost use mathlib.Core.Path.{_≡_};
 ghost use mathlib.Core.Option.{some};
-ghost use Prim.Native.Nat.{ℕ, _<_, _≤_, _*_};
+ghost use Prim.Native.Nat.{_<_, _≤_, _*_};
 ghost use lib.ListN.{length};
 ghost use Rattle.arith.specs.Operation.{Expr, constant};
 ghost use Rattle.numbering.specs.declared.ValNum.{ValNum};

@@ -6,7 +6,7 @@ use record::Refusal;
 // A value number. Name indexes are another kind, NameIx of the crate record.
 pub struct ValNum(pub u16);
 
-// A constant that is numbered: an int by its word, an int literal in a float, which is the value "that literal", by its word too, or a bool.
+// A constant that is numbered: an int, or an int literal in a float, which is the value "that literal", by its word; or a bool.
 pub enum Constant {
     Int(u64),
     IntAsFloat(u64),

@@ -1,4 +1,4 @@
--- `lvn_simplify::either` meets its contract.
+-- `lvn_simplify::either` meets its contract: by its two tests.
 use Rattle.lvn_simplify.proofs.either.Statement.{statement}
 use Rattle.lvn_simplify.proofs.either.Tie as tie
 

@@ -1,4 +1,4 @@
--- `lvn_simplify::first` meets its contract.
+-- `lvn_simplify::first` meets its contract: by whether anything is known of the first.
 use borrow.Author.Needs.{needs}
 use Rattle.lvn_simplify.proofs.Others.{first-there}
 use Rattle.lvn_simplify.proofs.first.Statement.{statement}

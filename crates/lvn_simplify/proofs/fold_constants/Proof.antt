@@ -12,9 +12,13 @@ fold-constants-spec =
     (λ c.
     let w = c .before .before in
     rw (w .before .before .before .x .given .1, w .y .given .1) (c .fold-ints .ensures))
-    (λ c. rw (c .before .before .x .given .1) (int-mixed _ _ _ (not-int (c .before .before .before .before .args .y) (c .match2 .keys2) .0)))
+    (λ c.
+    let w = c .before .before in
+    rw (w .x .given .1) (int-mixed _ _ _ (not-int (w .before .before .args .y) (c .match2 .keys2) .0)))
     (λ c. rw (c .enum-told .given .1) (literal-mixed _ _ _))
     (λ c.
     let w = c .before .before in
     rw (w .before .before .before .x2 .given .1, w .y2 .given .1) (c .fold-bools .ensures))
-    (λ c. rw (c .before .before .x2 .given .1) (bool-mixed _ _ _ (not-bool (c .before .before .before .before .args .y) (c .match3 .keys2) .0))))
+    (λ c.
+    let w = c .before .before in
+    rw (w .x2 .given .1) (bool-mixed _ _ _ (not-bool (w .before .before .args .y) (c .match3 .keys2) .0))))

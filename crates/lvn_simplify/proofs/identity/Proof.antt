@@ -1,4 +1,4 @@
--- `lvn_simplify::identity` meets its contract.
+-- `lvn_simplify::identity` meets its contract: by the operator.
 use borrow.Author.Needs.{needs}
 use Rattle.numbering.specs.Simplify.{identity}
 use Rattle.lvn_simplify.specs.View.{known-of}

@@ -1,4 +1,4 @@
--- `lvn_simplify::identity_add` meets its contract.
+-- `lvn_simplify::identity_add` meets its contract: by the steps of a test on each side.
 use borrow.Author.Needs.{needs}
 use Rattle.lvn_simplify.specs.View.{known-of}
 use Rattle.lvn_simplify.proofs.Identities.{add-steps}

@@ -1,4 +1,4 @@
--- `lvn_simplify::identity_eq` meets its contract.
+-- `lvn_simplify::identity_eq` meets its contract: by its test.
 use borrow.Author.Tests.{eq-eqb, ne-eqb}
 use Rattle.numbering.specs.Simplify.{identity}
 use Rattle.lvn_simplify.proofs.identity_eq.Statement.{statement}

@@ -1,4 +1,4 @@
--- `lvn_simplify::identity_mul` meets its contract.
+-- `lvn_simplify::identity_mul` meets its contract: by the steps of a test on each side, for 0, 1 and 2 in turn.
 use borrow.Author.Needs.{needs}
 use Rattle.lvn_simplify.specs.View.{known-of}
 use Rattle.lvn_simplify.proofs.Identities.{mul-steps}

@@ -1,4 +1,4 @@
--- `lvn_simplify::identity_ptr_add` meets its contract.
+-- `lvn_simplify::identity_ptr_add` meets its contract: by its test.
 use mathlib.Core.Path.{sym, _∙_}
 use borrow.Author.Needs.{needs}
 use Rattle.numbering.specs.Simplify.{identity}

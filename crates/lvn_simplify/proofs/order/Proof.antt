@@ -1,4 +1,4 @@
--- `lvn_simplify::order` meets its contract.
+-- `lvn_simplify::order` meets its contract: by the operator.
 use mathlib.Core.Option.{some}
 use mathlib.Core.Path.{ap, _∙_}
 use borrow.Author.Needs.{needs}

@@ -1,4 +1,4 @@
--- `lvn_simplify::simplify_one` meets its contract.
+-- `lvn_simplify::simplify_one` meets its contract: fold, then what is formed.
 use mathlib.Core.Path.{refl}
 use borrow.Author.Needs.{needs}
 use Rattle.lvn_simplify.specs.View.{known-of}

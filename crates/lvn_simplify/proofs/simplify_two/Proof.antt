@@ -1,4 +1,4 @@
--- `lvn_simplify::simplify_two` meets its contract.
+-- `lvn_simplify::simplify_two` meets its contract: fold, then identity, then order.
 use borrow.Author.Needs.{needs}
 use Rattle.lvn_simplify.specs.View.{known-of}
 use Rattle.lvn_simplify.proofs.Folds.{steps-two}

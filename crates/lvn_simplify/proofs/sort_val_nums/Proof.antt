@@ -1,4 +1,4 @@
--- `lvn_simplify::sort_val_nums` meets its contract.
+-- `lvn_simplify::sort_val_nums` meets its contract: by its test.
 use borrow.Author.Tests.{lt-ltb, le-ltb}
 use Rattle.lvn_simplify.proofs.sort_val_nums.Statement.{statement}
 use Rattle.lvn_simplify.proofs.sort_val_nums.Tie as tie

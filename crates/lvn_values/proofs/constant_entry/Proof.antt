@@ -1,5 +1,5 @@
 -- `lvn_values::constant_entry` meets its contract: by the constant.
-use mathlib.Core.Path.{_≡_, refl, ap}
+use mathlib.Core.Path.{_≡_, refl}
 use mathlib.Core.Bool.{Bool, true, false, cond}
 use mir.Val.{boolByte}
 use borrow.Author.Needs.{needs}
