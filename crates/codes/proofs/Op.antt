@@ -1,4 +1,4 @@
--- The operation of a code: that of the codes which have no operator, and its code again.
+-- The operation of a code: that of the codes which have no operator, its code again, and its form.
 use Prim.Native.Nat.{ℕ, _≤_}
 use mathlib.Core.Path.{_≡_, refl, sym}
 use mathlib.Core.List.{List, [], _∷_}
@@ -13,10 +13,12 @@ use Rattle.arith.specs.declared.Two.{Two}
 use Rattle.arith.specs.declared.Two.the-variants.{Add, Sub, Mul, Div, Eq, Lt, Gt, Le, Ge, And, Or, PtrAdd}
 use Rattle.arith.specs.Code.{code1, code2, ones, twos, with-code, one-of, two-of}
 use Rattle.arith.proofs.Found.{one-found, two-found}
+use Rattle.record.specs.declared.NameIx.{NameIx}
 use Rattle.record.specs.declared.Op.{Op}
-use Rattle.record.specs.Form.{operation}
+use Rattle.record.specs.Record.{Instr, arg}
+use Rattle.record.specs.Form.{Form, operation, form}
 use Rattle.record.specs.View.{code-of}
-use Rattle.codes.specs.Op.{operator, op-of}
+use Rattle.codes.specs.Op.{operator, op-of, form-as}
 use Rattle.record.specs.declared.Op.the-variants as op
 
 -- ---- the operators have the codes up to 14
@@ -101,3 +103,30 @@ module _ (c : ℕ) where
       (cond-code (eqb c 65) _ _ (λ e. sym (eqb-true c 65 e))
       (cond-code (eqb c 66) _ _ (λ e. sym (eqb-true c 66 e))
       (cond-code (eqb c 69) _ _ (λ e. sym (eqb-true c 69 e)) refl))))))
+
+-- ---- its form
+module _ (t : NameIx → ℕ) (i : Instr) where
+  cond-form : (b : Bool) (f g : Form) (x y : Op) → f ≡ form-as x t i → g ≡ form-as y t i → cond b f g ≡ form-as (cond b x y) t i
+  cond-form true f g x y h k = h
+  cond-form false f g x y h k = k
+
+  operator-form :
+      (o : Option One) (p : Option Two) (g : Form) (y : Op) →
+      g ≡ form-as y t i →
+      operation o p (arg i 0) (arg i 1) g ≡ form-as (operator o p y) t i
+  operator-form (some o) p g y h = refl
+  operator-form none (some o) g y h = refl
+  operator-form none none g y h = h
+
+  -- an instruction has the form of the operation of its code
+  pub form-op : form t i ≡ form-as (op-of (i .code)) t i
+  unfolding form op-of
+  form-op =
+      let c = i .code in
+      cond-form (eqb c 0) _ _ op.Const _ refl
+      (operator-form (one-of c) (two-of c) _ _
+      (cond-form (leb c 63) _ _ (op.New c) _ refl
+      (cond-form (eqb c 64) _ _ op.Jmp _ refl
+      (cond-form (eqb c 65) _ _ op.Br _ refl
+      (cond-form (eqb c 66) _ _ op.Ret _ refl
+      (cond-form (eqb c 69) _ _ op.Nop (op.Effect c) refl refl))))))

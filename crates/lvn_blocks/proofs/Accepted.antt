@@ -1,69 +1,27 @@
 -- Instructions of an accepted record, read again, are ones that numbering takes: their names are below 256, they read their arguments,
 -- and their operations are of the codes that they have.
 use Prim.Native.Nat.{ℕ, _+_, _<_, _≤_}
-use mathlib.Core.Path.{_≡_, refl, sym, ap, _∙_, subst}
-use mathlib.Core.Logic.{_≢_}
+use mathlib.Core.Path.{_≡_, sym, ap, _∙_, subst}
 use mathlib.Core.List.{List, [], _∷_}
-use mathlib.Core.Bool.{Bool, true, false, not, _&&_, _||_, true≢false}
+use mathlib.Core.Bool.{Bool, true, false}
 use native.Mathlib.Omega.{arith}
-use lib.Dec.{ltb, eqb}
-use borrow.Author.Tests.{ltb-true, eq-eqb, not-true}
-use Rattle.arith.specs.Code.{code1, code2, with-code, one-of, two-of}
 use Rattle.record.specs.declared.NameIx.{NameIx}
-use Rattle.record.specs.declared.Op.{Op}
-use Rattle.record.specs.declared.Op.the-variants.{Const, One, Two, New, Effect, Nop, Jmp, Br, Ret}
 use Rattle.record.specs.Record.{nm, Instr}
 use Rattle.record.specs.Shape.{shape-of}
 use Rattle.record.specs.Form.{form}
 use Rattle.record.specs.Reader.{num-at}
+use Rattle.record.specs.View.{code-of}
 use Rattle.record.specs.Good.{There, Each, IndexOk, InstrOk}
-use Rattle.record.specs.Decode.{operands-from, instr-from}
-use Rattle.record.proofs.Tests.{and-left, and-right, below-lt, code-known}
-use Rattle.record.proofs.Form.{all-below, at-known}
+use Rattle.record.specs.Decode.{instr-from}
+use Rattle.record.proofs.Tests.{below-lt}
 use Rattle.numbering.specs.Number.{reads}
 use Rattle.numbering.proofs.Codes.{reads-args, reads-below}
 use Rattle.codes.specs.Op.{op-of}
+use Rattle.codes.proofs.Op.{op-code}
 use Rattle.read_instrs.specs.declared.Read.{Read}
 use Rattle.read_instrs.specs.Again.{ReadAgain}
 use Rattle.lvn_state.specs.Room.{Low}
-use Rattle.lvn_instr.specs.View.{Formed, Fit, Ready}
-
--- ---- the operation of a code
-formed : Op → Bool
-formed Const = true
-formed (One o) = true
-formed (Two o) = true
-formed (New c) = ltb 14 c && ltb c 64
-formed (Effect c) = ltb 66 c && not (eqb c 69)
-formed Nop = true
-formed Jmp = true
-formed Br = true
-formed Ret = true
-
-not-eqb : (c d : ℕ) → eqb c d ≡ false → c ≢ d
-not-eqb c d e p = true≢false (sym (eq-eqb c d p) ∙ e)
-
-formed-true : (o : Op) → formed o ≡ true → Formed o
-unfolding formed
-formed-true Const e = tt
-formed-true (One o) e = tt
-formed-true (Two o) e = tt
-formed-true (New c) e =
-    (ltb-true 14 c (and-left (ltb 14 c) (ltb c 64) e), ltb-true c 64 (and-right (ltb 14 c) (ltb c 64) e))
-formed-true (Effect c) e =
-    (ltb-true 66 c (and-left (ltb 66 c) (not (eqb c 69)) e), not-eqb c 69 (not-true (eqb c 69) (and-right (ltb 66 c) (not (eqb c 69)) e)))
-formed-true Nop e = tt
-formed-true Jmp e = tt
-formed-true Br e = tt
-formed-true Ret e = tt
-
--- every code is tried
-codes-formed : all-below 72 (λ c. not (shape-of c .known) || formed (op-of c)) ≡ true
-unfolding shape-of op-of formed one-of two-of with-code code1 code2
-codes-formed = refl
-
-op-formed : (c : ℕ) → shape-of c .known ≡ true → Formed (op-of c)
-op-formed c k = formed-true (op-of c) (at-known (λ c. formed (op-of c)) codes-formed c k)
+use Rattle.lvn_instr.specs.View.{Fit, Ready}
 
 -- ---- names
 low-below : (N : ℕ) (xs : List NameIx) → N ≤ 256 → Each (λ left x. x .0 < N) xs → Low xs
@@ -87,10 +45,6 @@ module _ {N B left : ℕ} (t : NameIx → ℕ) (i : Instr) (h : InstrOk N B left
       }
 
 -- ---- an instruction read again
-code-from : (w : ℕ) (s : List ℕ) (at : ℕ) → instr-from w s at .code ≡ num-at s (at + w) 1
-unfolding instr-from operands-from
-code-from w s at = refl
-
 pub ready :
     {w N B left : ℕ} {s : List ℕ} {at : ℕ} {r : Read} →
     N ≤ 256 →
@@ -98,10 +52,8 @@ pub ready :
     ReadAgain w s at r →
     Ready (r .instr)
 ready {w} {N} {B} {left} {s} {at} {r} few h a =
-    let i = instr-from w s at in
-    let known : shape-of (i .code) .known ≡ true = code-known (eqb left 0) (i .code) (h .code) in
     record {
       few = a .count;
-      formed = subst Formed (ap op-of (code-from w s at) ∙ sym (a .op)) (op-formed (i .code) known);
-      fit = subst Fit (sym (a .instr)) (instr-fit (λ x. 0) i h few);
+      coded = ap op-of (ap code-of (a .op) ∙ op-code (num-at s (at + w) 1)) ∙ sym (a .op);
+      fit = subst Fit (sym (a .instr)) (instr-fit (λ x. 0) (instr-from w s at) h few);
     }

@@ -27,23 +27,19 @@ use Rattle.numbering.specs.declared.ValNum.{ValNum}
 use Rattle.numbering.specs.State.{State, new-number, update-env, gen-new-vals, known}
 use Rattle.numbering.specs.Number.{reads, make-val-instr, make-id-instr, val-to-instr, rewrite-instr, Saved, handle-overwrite}
 use Rattle.numbering.specs.Number.{get-val-num, Emitted, unchanged, number-dest, place, by-form, instr-lvn}
-use Rattle.numbering.specs.declared.Value.{Value}
-use Rattle.numbering.specs.View.{expr-of}
 use Rattle.numbering.proofs.Saves.{gen-new-vals-temps}
 use Rattle.numbering.proofs.Homes.{overwritten, overwritten-next}
 use Rattle.numbering.proofs.Simplified.{MaybeOk}
+use Rattle.codes.specs.Op.{form-as}
 use Rattle.lvn_values.specs.Table.{val-num-of}
 use Rattle.lvn_state.specs.declared.LvnState.{LvnState}
 use Rattle.lvn_state.specs.View.{locs-of, state-of, saves-of, settled-at, settled}
 use Rattle.lvn_state.specs.Room.{Low, room}
 use Rattle.lvn_state.proofs.Room.{next-room, room-of, gen-room}
-use Rattle.lvn_instr.specs.View.{Ready, form-as, value-by, Any, has-dest, written-as, chosen, by-op}
+use Rattle.lvn_instr.specs.View.{Ready, value-by, Any, has-dest, written-as, chosen, by-op}
 use Rattle.lvn_instr.proofs.Forms.{instr-form}
 
 -- ---- the instruction of a value
-abbrev pub written-of : State → Instruction → Value → Instr
-written-of s i v = written-as s (instr-of i) (expr-of v)
-
 pub one-written :
     (s : State) (homes : List ℕ) (i : Instr) (o : One) (a : ValNum) →
     s .locs ≡ locs-of homes →
@@ -194,7 +190,7 @@ by-dest N s i o e b p = ap (λ (d : Bool). cond d (place N s i e) (unchanged s i
 
 by-op-form :
     (N : ℕ) (s : State) (i j : Instr) (t : NameIx → ℕ) (o : Op) →
-    by-op N s i o (value-by s (form-as t o j)) ≡ by-form N s i (form-as t o j)
+    by-op N s i o (value-by s (form-as o t j)) ≡ by-form N s i (form-as o t j)
 unfolding by-form
 by-op-form N s i j t ops.Const = refl
 by-op-form N s i j t (ops.One o) = refl
@@ -218,7 +214,7 @@ module _
   unfolding instr-lvn
   instr-by-op a b c =
       let f = form t (instr-of i) in
-      let g : f ≡ form-as t (i .op) (instr-of i) = instr-form i ready t (i .op) refl in
+      let g : f ≡ form-as (i .op) t (instr-of i) = instr-form i ready t (i .op) refl in
       let xs : instr-of i .args ≡ reads f = sym (ready .fit .reading t) in
       ap (by-op N seen j (i .op)) (c ∙ ap (value-by seen) g) ∙ by-op-form N seen j (instr-of i) t (i .op) ∙
       ap (by-form N seen j) (sym g) ∙

@@ -17,7 +17,6 @@ use Rattle.arith.specs.Value.{Val, int, literal, bool}
 use Rattle.arith.specs.Operation.{Expr, constant, one, two}
 use Rattle.record.specs.declared.NameIx.{NameIx}
 use Rattle.record.specs.declared.Literal.{Literal}
-use Rattle.record.specs.declared.Literal.the-variants as literals
 use Rattle.record.specs.declared.Op.{Op}
 use Rattle.record.specs.declared.Op.the-variants as ops
 use Rattle.record.specs.declared.Instruction.{Instruction}
@@ -25,16 +24,16 @@ use Rattle.record.specs.Record.{nm, Instr}
 use Rattle.record.specs.Form.{value-of, form}
 use Rattle.record.specs.Answer.{literal-of}
 use Rattle.record.specs.View.{instr-of}
-use Rattle.record.proofs.Literal as Literals
 use Rattle.record.proofs.Op as Ops
 use Rattle.numbering.specs.declared.ValNum.{ValNum}
 use Rattle.numbering.specs.State.{vn, State, number-of, home-of, known-expr, known}
 use Rattle.numbering.specs.Simplify.{simplify1, simplify2, simplify}
 use Rattle.numbering.specs.Number.{numbered, make-val}
 use Rattle.numbering.proofs.Simplified.{Closed, OptionOk, MaybeOk, simplify-ok}
+use Rattle.codes.specs.Op.{form-as}
 use Rattle.lvn_values.specs.Table.{vals-of}
 use Rattle.lvn_state.specs.View.{env-of, locs-of}
-use Rattle.lvn_instr.specs.View.{Ready, Reads, form-as, value-by, Any}
+use Rattle.lvn_instr.specs.View.{Ready, Reads, value-by, Any}
 use Rattle.lvn_instr.proofs.Forms.{instr-form, one-arg, two-args}
 
 -- ---- const
@@ -54,14 +53,6 @@ module _ (s : State) (t : ℕ) where
   unfolding make-val value-of numbered
   const-bool true = refl
   const-bool false = refl
-
-  pub const-new : (l : Literal) → OneOf (2 ∷ 3 ∷ 4 ∷ []) (tagOf Literals.the-type l) → none ≡ const-of s t l
-  unfolding make-val value-of numbered literal-of
-  const-new (literals.Int z) h = absurd (miss (2 ∷ 3 ∷ 4 ∷ []) 0 tt h)
-  const-new (literals.Bool b) h = absurd (miss (2 ∷ 3 ∷ 4 ∷ []) 1 tt h)
-  const-new (literals.Float x) h = refl
-  const-new (literals.Nan b) h = refl
-  const-new (literals.Char c) h = refl
 
 -- ---- the numbers of operands are numbers
 numbered-any : (n : ℕ) (b : Bool) (v : Val) → MaybeOk Any n (cond b (some (constant v)) none)
@@ -165,7 +156,7 @@ module _ (i : Instruction) (ready : Ready i) (s : State) (t : NameIx → ℕ) wh
       let xs = two-args i ready o e in
       sym (ap (value-by s) (instr-form i ready t (ops.Two o) e) ∙ (λ j. make-val s (two o (xs .0 j) (xs .1 j))))
 
-  none-of : (o : Op) (j : Instr) → OneOf (3 ∷ 4 ∷ 5 ∷ 6 ∷ 7 ∷ 8 ∷ []) (tagOf Ops.the-type o) → none ≡ value-by s (form-as t o j)
+  none-of : (o : Op) (j : Instr) → OneOf (3 ∷ 4 ∷ 5 ∷ 6 ∷ 7 ∷ 8 ∷ []) (tagOf Ops.the-type o) → none ≡ value-by s (form-as o t j)
   none-of ops.Const j h = absurd (miss (3 ∷ 4 ∷ 5 ∷ 6 ∷ 7 ∷ 8 ∷ []) 0 tt h)
   none-of (ops.One o) j h = absurd (miss (3 ∷ 4 ∷ 5 ∷ 6 ∷ 7 ∷ 8 ∷ []) 1 tt h)
   none-of (ops.Two o) j h = absurd (miss (3 ∷ 4 ∷ 5 ∷ 6 ∷ 7 ∷ 8 ∷ []) 2 tt h)

@@ -1,65 +1,41 @@
 -- What the code of one instruction speaks of: instructions by their operation, and its answers as those of the definitions.
 use Prim.Native.Nat.{ℕ, _<_, _≤_}
 use mathlib.Core.Path.{_≡_}
-use mathlib.Core.Logic.{_≢_}
 use mathlib.Core.Bool.{Bool, true, false, cond}
-use mathlib.Core.List.{List, []}
+use mathlib.Core.List.{List}
 use mathlib.Core.Option.{Option, none, some}
-use lib.ListN.{getD}
 use Rattle.arith.specs.Value.{Val}
-use Rattle.arith.specs.Operation.{Expr, constant, one, two}
+use Rattle.arith.specs.Operation.{Expr}
 use Rattle.record.specs.declared.NameIx.{NameIx}
 use Rattle.record.specs.declared.Op.{Op}
 use Rattle.record.specs.declared.Op.the-variants.{Const, One, Two, New, Effect, Nop, Jmp, Br, Ret}
 use Rattle.record.specs.declared.Instruction.{Instruction}
-use Rattle.record.specs.Record.{Lit, Instr, arg}
-use Rattle.record.specs.Form.{Form, pure, new, effect, return, nop, jump, branch, value-of, form}
-use Rattle.record.specs.View.{instr-of}
+use Rattle.record.specs.Record.{Instr}
+use Rattle.record.specs.Form.{Form, pure, new, effect, return, nop, jump, branch, form}
+use Rattle.record.specs.View.{code-of, instr-of}
 use Rattle.numbering.specs.declared.ValNum.{ValNum}
 use Rattle.numbering.specs.State.{State, known}
 use Rattle.numbering.specs.Number.{reads, make-val, make-id-instr, val-to-instr, Emitted as EmittedAs, unchanged, place}
+use Rattle.codes.specs.Op.{op-of}
 use Rattle.lvn_values.specs.Table.{vals-of}
 use Rattle.lvn_state.specs.View.{env-of, state-of, saves-of}
 use Rattle.lvn_state.specs.Room.{Low}
 use Rattle.lvn_instr.specs.declared.Emitted.{Emitted}
 
 -- ---- what is asked of an instruction
--- the codes that have no operator of their own are of their group
-abbrev pub Formed : Op → Type 0
-Formed Const = Unit {0}
-Formed (One o) = Unit {0}
-Formed (Two o) = Unit {0}
-Formed (New c) = (14 < c) × (c < 64)
-Formed (Effect c) = (66 < c) × (c ≢ 69)
-Formed Nop = Unit {0}
-Formed Jmp = Unit {0}
-Formed Br = Unit {0}
-Formed Ret = Unit {0}
-
 -- its names are names of a record, and it reads its arguments
 pub record Fit (i : Instr) : Type 0 where
   pub low : Low (i .args)
   pub dest : i .dest .0 < 256
   pub reading : (t : NameIx → ℕ) → reads (form t i) ≡ i .args
 
+-- and its operation is that of its code
 pub record Ready (i : Instruction) : Type 0 where
   pub few : i .count ≤ 8
-  pub formed : Formed (i .op)
+  pub coded : op-of (code-of (i .op)) ≡ i .op
   pub fit : Fit (instr-of i)
 
 -- ---- by the operation
--- the form of an instruction whose operation is known
-abbrev pub form-as : (NameIx → ℕ) → Op → Instr → Form
-form-as t Const i = pure (constant (value-of (t (i .dest)) (i .lit .kind) (i .lit .bits)))
-form-as t (One o) i = pure (one o (arg i 0))
-form-as t (Two o) i = pure (two o (arg i 0) (arg i 1))
-form-as t (New c) i = new (i .args)
-form-as t (Effect c) i = effect (i .args)
-form-as t Nop i = nop
-form-as t Jmp i = jump (getD (i .blocks) 0 0)
-form-as t Br i = branch (arg i 0) (getD (i .blocks) 0 0) (getD (i .blocks) 1 0)
-form-as t Ret i = return (i .args)
-
 -- the value expression of an instruction, none where it is new each time or there is no value
 abbrev pub value-by : State → Form → Option (Expr ValNum)
 value-by s (pure e) = make-val s e
@@ -79,10 +55,6 @@ abbrev pub Any : Val → Type 0
 Any v = Unit {0}
 
 -- ---- what is written
--- a const under the id and dest of i
-abbrev pub const-as : Instr → Lit → Instr
-const-as i l = record { id = i .id; code = 0; dest = i .dest; lit = l; args = []; callee = 0; blocks = [] }
-
 -- the instruction of a value expression; one that is new each time stays
 abbrev pub written-as : State → Instr → Option (Expr ValNum) → Instr
 written-as s i none = i

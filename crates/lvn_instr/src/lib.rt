@@ -1,7 +1,6 @@
 // One instruction: its arguments numbered and replaced by their homes, its value formed, simplified and looked up, the save that it owes.
 ghost use mathlib.Core.Path.{_≡_};
 ghost use mathlib.Core.List.{List, [], _∷_, map};
-ghost use mathlib.Core.Option.{none};
 ghost use Prim.Native.Nat.{ℕ, _+_, _<_, _≤_};
 ghost use lib.ListN.{length};
 ghost use Rattle.arith.specs.Code.{code1, code2};
@@ -12,19 +11,21 @@ ghost use Rattle.record.specs.Form.{value-of, form};
 ghost use Rattle.record.specs.Answer.{literal-of};
 ghost use Rattle.record.specs.View.{instr-of};
 ghost use Rattle.numbering.specs.State.{State, home-of};
-ghost use Rattle.numbering.specs.Number.{make-val, rewrite-instr, make-val-instr, make-id-instr, place, unchanged, instr-lvn};
-ghost use Rattle.numbering.specs.View.{expr-of};
+ghost use Rattle.numbering.specs.Number.{make-val, literal-for, make-const-instr, make-val-instr, make-id-instr};
+ghost use Rattle.numbering.specs.Number.{rewrite-instr, place, unchanged, instr-lvn};
+ghost use Rattle.numbering.specs.View.{val-of, expr-of};
 ghost use Rattle.numbering.proofs.Simplified.{MaybeOk};
 ghost use Rattle.lvn_simplify.specs.View.{known-of};
 ghost use Rattle.lvn_values.specs.Table.{numbered-of, vals-of};
 ghost use Rattle.lvn_state.specs.View.{env-of, locs-of, state-of, names-in};
 ghost use Rattle.lvn_state.specs.Room.{room, Maps};
-ghost use Rattle.lvn_instr.specs.View.{Ready, Reads, has-dest, value-by, Any, const-as, written-as, chosen, by-op, emitted-of};
+ghost use Rattle.lvn_instr.specs.View.{Ready, Reads, has-dest, value-by, Any, written-as, chosen, by-op, emitted-of};
 use arith::One;
 use arith::Two;
 use lvn_simplify::Known;
 use lvn_state::LvnState;
 use lvn_values::Numbered;
+use numbering::Constant;
 use numbering::ValNum;
 use numbering::Value;
 use record::Instruction;
@@ -44,27 +45,23 @@ pub struct Emitted {
 
 // ---- the value of an instruction
 
-// Of what is new each time.
-pub fn unknown() -> Value
-    ensures { λ r. ⌜ expr-of r ≡ none ⌝ }
-{
-    Value::Unique(0)
-}
-
 // Of a const in a name of type t: an int literal of a float is the value "that literal"; floats and chars are new each time.
 pub fn const_value(l: Literal, t: u8) -> Value
     ensures { λ r. ⌜ ((s : State) → expr-of r ≡ make-val s (constant (value-of t (literal-of l .kind) (literal-of l .bits)))) ⌝ }
 {
     match l {
         Literal::Int(z) => {
+            let w = words::bits_of(z);
             if t == FLOAT {
-                Value::IntAsFloat(z)
+                Value::Constant(Constant::IntAsFloat(w))
             } else {
-                Value::Int(z)
+                Value::Constant(Constant::Int(w))
             }
         }
-        Literal::Bool(b) => Value::Bool(b),
-        _ => Value::Unique(0),
+        Literal::Bool(b) => Value::Constant(Constant::Bool(b)),
+        Literal::Float(_) => Value::Unique,
+        Literal::Nan(_) => Value::Unique,
+        Literal::Char(_) => Value::Unique,
     }
 }
 
@@ -137,7 +134,7 @@ pub fn make_val(
                 NameIx(i.args[1]),
             )
         }
-        _ => unknown(),
+        _ => Value::Unique,
     }
 }
 
@@ -187,11 +184,23 @@ pub fn rewrite_instr(env: &[u16], homes: &[u16], i: Instruction) -> Instruction
     }
 }
 
+// The literal of a constant.
+pub fn literal_for(c: Constant) -> Literal
+    ensures { λ r. ⌜ literal-of r ≡ literal-for (val-of c) ⌝ }
+{
+    match c {
+        Constant::Int(w) => Literal::Int(words::of_bits(w)),
+        Constant::IntAsFloat(w) => Literal::Int(words::of_bits(w)),
+        Constant::Bool(b) => Literal::Bool(b),
+    }
+}
+
 // A const under the id and dest of i.
-pub fn make_const_instr(i: Instruction, l: Literal) -> Instruction
-    ensures { λ r. ⌜ (instr-of r ≡ const-as (instr-of i) (literal-of l)) × (r .count ≤ 8) ⌝ }
+pub fn make_const_instr(i: Instruction, c: Constant) -> Instruction
+    ensures { λ r. ⌜ (instr-of r ≡ make-const-instr (instr-of i) (val-of c)) × (r .count ≤ 8) ⌝ }
 {
     let dest = i.dest;
+    let l = literal_for(c);
     Instruction {
         id: i.id,
         op: Op::Const,
@@ -252,24 +261,10 @@ pub fn val_to_instr(homes: &[u16], i: Instruction, v: Value) -> Instruction
         (r .count ≤ 8) ⌝ }
 {
     match v {
-        Value::Unique(_) => i,
-        Value::Add(a, b) => make_two_instr(homes, i, Two::Add, a, b),
-        Value::Mul(a, b) => make_two_instr(homes, i, Two::Mul, a, b),
-        Value::Sub(a, b) => make_two_instr(homes, i, Two::Sub, a, b),
-        Value::Div(a, b) => make_two_instr(homes, i, Two::Div, a, b),
-        Value::Id(a) => make_one_instr(homes, i, One::Id, a),
-        Value::Eq(a, b) => make_two_instr(homes, i, Two::Eq, a, b),
-        Value::Lt(a, b) => make_two_instr(homes, i, Two::Lt, a, b),
-        Value::Gt(a, b) => make_two_instr(homes, i, Two::Gt, a, b),
-        Value::Le(a, b) => make_two_instr(homes, i, Two::Le, a, b),
-        Value::Ge(a, b) => make_two_instr(homes, i, Two::Ge, a, b),
-        Value::And(a, b) => make_two_instr(homes, i, Two::And, a, b),
-        Value::Or(a, b) => make_two_instr(homes, i, Two::Or, a, b),
-        Value::Not(a) => make_one_instr(homes, i, One::Not, a),
-        Value::Bool(b) => make_const_instr(i, Literal::Bool(b)),
-        Value::Int(z) => make_const_instr(i, Literal::Int(z)),
-        Value::IntAsFloat(z) => make_const_instr(i, Literal::Int(z)),
-        Value::PtrAdd(a, b) => make_two_instr(homes, i, Two::PtrAdd, a, b),
+        Value::Unique => i,
+        Value::Constant(c) => make_const_instr(i, c),
+        Value::One(o, a) => make_one_instr(homes, i, o, a),
+        Value::Two(o, a, b) => make_two_instr(homes, i, o, a, b),
     }
 }
 
@@ -281,8 +276,7 @@ pub fn make_id_instr(k: Known, homes: &[u16], i: Instruction, v: ValNum) -> Inst
 {
     match k {
         Known::Nothing => make_one_instr(homes, i, One::Id, v),
-        Known::Int(w) => make_const_instr(i, Literal::Int(words::of_bits(w))),
-        Known::Bool(b) => make_const_instr(i, Literal::Bool(b)),
+        Known::Is(c) => make_const_instr(i, c),
     }
 }
 

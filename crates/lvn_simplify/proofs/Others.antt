@@ -79,27 +79,9 @@ as-it-stands a b =
     of-these (λ o. two o a b ≡ ordered o a b) not-sorted (refl, (refl, (refl, (refl, (refl, (refl, (refl, tt)))))))
 
 -- ---- values
-abbrev pub not-unique : List ℕ
-not-unique = 1 ∷ 2 ∷ 3 ∷ 4 ∷ 5 ∷ 6 ∷ 7 ∷ 8 ∷ 9 ∷ 10 ∷ 11 ∷ 12 ∷ 13 ∷ 14 ∷ 15 ∷ 16 ∷ 17 ∷ []
-
 pub first-there :
-    (v : Value) (y : Option (Expr ValNum)) → OneOf not-unique (tagOf values.the-type v) → expr-of v ≡ first (expr-of v) y
-unfolding expr-of
-first-there (value.Unique u) y h = absurd (miss not-unique 0 tt h)
-first-there (value.Add a b) y h = refl
-first-there (value.Mul a b) y h = refl
-first-there (value.Sub a b) y h = refl
-first-there (value.Div a b) y h = refl
-first-there (value.Id a) y h = refl
-first-there (value.Eq a b) y h = refl
-first-there (value.Lt a b) y h = refl
-first-there (value.Gt a b) y h = refl
-first-there (value.Le a b) y h = refl
-first-there (value.Ge a b) y h = refl
-first-there (value.And a b) y h = refl
-first-there (value.Or a b) y h = refl
-first-there (value.Not a) y h = refl
-first-there (value.Bool b) y h = refl
-first-there (value.Int z) y h = refl
-first-there (value.IntAsFloat z) y h = refl
-first-there (value.PtrAdd a b) y h = refl
+    (v : Value) (y : Option (Expr ValNum)) → OneOf (1 ∷ 2 ∷ 3 ∷ []) (tagOf values.the-type v) → expr-of v ≡ first (expr-of v) y
+first-there value.Unique y h = absurd (miss (1 ∷ 2 ∷ 3 ∷ []) 0 tt h)
+first-there (value.Constant c) y h = refl
+first-there (value.One o a) y h = refl
+first-there (value.Two o a b) y h = refl

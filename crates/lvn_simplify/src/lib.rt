@@ -1,144 +1,122 @@
-// Forming and simplifying a value over its operator and what is known of its operands, as numbering's specs/Simplify.antt has it:
-// folds, then identities, then the order of operands. A value of which nothing is known, Unique, stands for none.
+// Simplifying a value over its operator and what is known of its operands, as numbering's specs/Simplify.antt has it:
+// folds, then identities, then the order of operands. Unique, of which nothing is known, stands for none.
 ghost use mathlib.Core.Path.{_≡_};
 ghost use mathlib.Core.Bool.{cond, not};
 ghost use mathlib.Core.Option.{Option, none, some};
 ghost use Rattle.arith.specs.declared.Two.the-variants as two-operands;
 ghost use Rattle.arith.specs.Value.{Val, int, bool};
-ghost use Rattle.arith.specs.Operation.{one, two, apply2, divide};
+ghost use Rattle.arith.specs.declared.One.the-variants.{Not};
+ghost use Rattle.arith.specs.Operation.{apply1, apply2, divide};
 ghost use Rattle.numbering.specs.declared.ValNum.{ValNum};
 ghost use Rattle.numbering.specs.Simplify.{folded, fold1, fold2, is-int, is-bool, absorbs, identity};
 ghost use Rattle.numbering.specs.Simplify.{sorted, ordered, first, simplify1, simplify2};
-ghost use Rattle.numbering.specs.View.{expr-of};
-ghost use Rattle.lvn_simplify.specs.View.{known-of, constant-of};
+ghost use Rattle.numbering.specs.View.{val-of, expr-of};
+ghost use Rattle.lvn_simplify.specs.View.{known-of};
 use arith::One;
 use arith::Two;
+use numbering::Constant;
 use numbering::ValNum;
 use numbering::Value;
 use words::Quotient;
 
-// The constant of a number, where it is known: an int by its word, or a bool.
+// The constant of a number, where it is known.
 pub enum Known {
     Nothing,
-    Int(u64),
-    Bool(bool),
-}
-
-// ---- forming values
-
-// The value of a constant.
-pub fn constant(k: Known) -> Value
-    ensures { λ r. ⌜ expr-of r ≡ constant-of k ⌝ }
-{
-    match k {
-        Known::Nothing => Value::Unique(0),
-        Known::Int(w) => Value::Int(words::of_bits(w)),
-        Known::Bool(b) => Value::Bool(b),
-    }
-}
-
-// The value of an operator of one operand.
-pub fn form_one(o: One, a: ValNum) -> Value
-    ensures { λ r. ⌜ expr-of r ≡ some (one o a) ⌝ }
-{
-    match o {
-        One::Not => Value::Not(a),
-        One::Id => Value::Id(a),
-    }
-}
-
-// The value of an operator of two operands.
-pub fn form_two(o: Two, a: ValNum, b: ValNum) -> Value
-    ensures { λ r. ⌜ expr-of r ≡ some (two o a b) ⌝ }
-{
-    match o {
-        Two::Add => Value::Add(a, b),
-        Two::Sub => Value::Sub(a, b),
-        Two::Mul => Value::Mul(a, b),
-        Two::Div => Value::Div(a, b),
-        Two::Eq => Value::Eq(a, b),
-        Two::Lt => Value::Lt(a, b),
-        Two::Gt => Value::Gt(a, b),
-        Two::Le => Value::Le(a, b),
-        Two::Ge => Value::Ge(a, b),
-        Two::And => Value::And(a, b),
-        Two::Or => Value::Or(a, b),
-        Two::PtrAdd => Value::PtrAdd(a, b),
-    }
+    Is(Constant),
 }
 
 // ---- folds
 
 // "div by 0, or of -2^63 by -1: no fold, the division stays".
-pub fn fold_quotient(x: u64, y: u64) -> Known
-    ensures { λ r. ⌜ constant-of r ≡ folded (divide x y) ⌝ }
+pub fn fold_quotient(x: u64, y: u64) -> Value
+    ensures { λ r. ⌜ expr-of r ≡ folded (divide x y) ⌝ }
 {
     match words::divide(x, y) {
-        Quotient::Is(q) => Known::Int(q),
-        Quotient::Stops => Known::Nothing,
+        Quotient::Is(q) => Value::Constant(Constant::Int(q)),
+        Quotient::Stops => Value::Unique,
     }
 }
 
 // The fold of two ints.
-pub fn fold_ints(o: Two, x: u64, y: u64) -> Known
-    ensures { λ r. ⌜ constant-of r ≡ folded (apply2 o (int x) (int y)) ⌝ }
+pub fn fold_ints(o: Two, x: u64, y: u64) -> Value
+    ensures { λ r. ⌜ expr-of r ≡ folded (apply2 o (int x) (int y)) ⌝ }
 {
     match o {
-        Two::Add => Known::Int(words::add(x, y)),
-        Two::Sub => Known::Int(words::sub(x, y)),
-        Two::Mul => Known::Int(words::mul(x, y)),
+        Two::Add => Value::Constant(Constant::Int(words::add(x, y))),
+        Two::Sub => Value::Constant(Constant::Int(words::sub(x, y))),
+        Two::Mul => Value::Constant(Constant::Int(words::mul(x, y))),
         Two::Div => fold_quotient(x, y),
-        Two::Eq => Known::Bool(x == y),
-        Two::Lt => Known::Bool(words::less(x, y)),
-        Two::Gt => Known::Bool(words::less(y, x)),
-        Two::Le => Known::Bool(!words::less(y, x)),
-        Two::Ge => Known::Bool(!words::less(x, y)),
-        Two::And => Known::Nothing,
-        Two::Or => Known::Nothing,
-        Two::PtrAdd => Known::Nothing,
+        Two::Eq => Value::Constant(Constant::Bool(x == y)),
+        Two::Lt => Value::Constant(Constant::Bool(words::less(x, y))),
+        Two::Gt => Value::Constant(Constant::Bool(words::less(y, x))),
+        Two::Le => Value::Constant(Constant::Bool(!words::less(y, x))),
+        Two::Ge => Value::Constant(Constant::Bool(!words::less(x, y))),
+        Two::And => Value::Unique,
+        Two::Or => Value::Unique,
+        Two::PtrAdd => Value::Unique,
     }
 }
 
 // The fold of two bools.
-pub fn fold_bools(o: Two, x: bool, y: bool) -> Known
-    ensures { λ r. ⌜ constant-of r ≡ folded (apply2 o (bool x) (bool y)) ⌝ }
+pub fn fold_bools(o: Two, x: bool, y: bool) -> Value
+    ensures { λ r. ⌜ expr-of r ≡ folded (apply2 o (bool x) (bool y)) ⌝ }
 {
     match o {
-        Two::And => Known::Bool(x & y),
-        Two::Or => Known::Bool(x | y),
-        _ => Known::Nothing,
+        Two::And => Value::Constant(Constant::Bool(x & y)),
+        Two::Or => Value::Constant(Constant::Bool(x | y)),
+        _ => Value::Unique,
     }
 }
 
-// The fold of two operands: both have to be known, and of one type.
-pub fn fold_two(o: Two, ka: Known, kb: Known) -> Known
-    ensures { λ r. ⌜ constant-of r ≡ fold2 o (known-of ka) (known-of kb) ⌝ }
+// The fold of two constants: they have to be of one type.
+pub fn fold_constants(o: Two, x: Constant, y: Constant) -> Value
+    ensures { λ r. ⌜ expr-of r ≡ folded (apply2 o (val-of x) (val-of y)) ⌝ }
+{
+    match x {
+        Constant::Int(v) => match y {
+            Constant::Int(w) => fold_ints(o, v, w),
+            _ => Value::Unique,
+        },
+        Constant::IntAsFloat(_) => Value::Unique,
+        Constant::Bool(v) => match y {
+            Constant::Bool(w) => fold_bools(o, v, w),
+            _ => Value::Unique,
+        },
+    }
+}
+
+// The fold of two operands: both have to be known.
+pub fn fold_two(o: Two, ka: Known, kb: Known) -> Value
+    ensures { λ r. ⌜ expr-of r ≡ fold2 o (known-of ka) (known-of kb) ⌝ }
 {
     match ka {
-        Known::Nothing => Known::Nothing,
-        Known::Int(x) => match kb {
-            Known::Nothing => Known::Nothing,
-            Known::Int(y) => fold_ints(o, x, y),
-            Known::Bool(_) => Known::Nothing,
+        Known::Nothing => Value::Unique,
+        Known::Is(x) => match kb {
+            Known::Nothing => Value::Unique,
+            Known::Is(y) => fold_constants(o, x, y),
         },
-        Known::Bool(x) => match kb {
-            Known::Nothing => Known::Nothing,
-            Known::Int(_) => Known::Nothing,
-            Known::Bool(y) => fold_bools(o, x, y),
-        },
+    }
+}
+
+// The negation of a bool.
+pub fn fold_not(x: Constant) -> Value
+    ensures { λ r. ⌜ expr-of r ≡ folded (apply1 Not (val-of x)) ⌝ }
+{
+    match x {
+        Constant::Bool(b) => Value::Constant(Constant::Bool(!b)),
+        _ => Value::Unique,
     }
 }
 
 // The fold of one operand.
-pub fn fold_one(o: One, k: Known) -> Known
-    ensures { λ r. ⌜ constant-of r ≡ fold1 o (known-of k) ⌝ }
+pub fn fold_one(o: One, k: Known) -> Value
+    ensures { λ r. ⌜ expr-of r ≡ fold1 o (known-of k) ⌝ }
 {
-    match o {
-        One::Id => k,
-        One::Not => match k {
-            Known::Nothing => Known::Nothing,
-            Known::Int(_) => Known::Nothing,
-            Known::Bool(x) => Known::Bool(!x),
+    match k {
+        Known::Nothing => Value::Unique,
+        Known::Is(x) => match o {
+            One::Id => Value::Constant(x),
+            One::Not => fold_not(x),
         },
     }
 }
@@ -151,8 +129,10 @@ pub fn is_int(n: u64, k: Known) -> bool
 {
     match k {
         Known::Nothing => false,
-        Known::Int(w) => w == n,
-        Known::Bool(_) => false,
+        Known::Is(c) => match c {
+            Constant::Int(w) => w == n,
+            _ => false,
+        },
     }
 }
 
@@ -162,8 +142,10 @@ pub fn is_bool(c: bool, k: Known) -> bool
 {
     match k {
         Known::Nothing => false,
-        Known::Int(_) => false,
-        Known::Bool(b) => b == c,
+        Known::Is(x) => match x {
+            Constant::Bool(b) => b == c,
+            _ => false,
+        },
     }
 }
 
@@ -177,7 +159,7 @@ pub fn either(left: bool, v: Value, right: bool, w: Value) -> Value
     if right {
         return w;
     }
-    Value::Unique(0)
+    Value::Unique
 }
 
 // v, or w where nothing is known of v.
@@ -185,7 +167,7 @@ pub fn first(v: Value, w: Value) -> Value
     ensures { λ r. ⌜ expr-of r ≡ first (expr-of v) (expr-of w) ⌝ }
 {
     match v {
-        Value::Unique(_) => w,
+        Value::Unique => w,
         _ => v,
     }
 }
@@ -194,20 +176,31 @@ pub fn first(v: Value, w: Value) -> Value
 pub fn identity_add(ka: Known, kb: Known, a: ValNum, b: ValNum) -> Value
     ensures { λ r. ⌜ expr-of r ≡ identity two-operands.Add (known-of ka) (known-of kb) a b ⌝ }
 {
-    either(is_int(0, ka), Value::Id(b), is_int(0, kb), Value::Id(a))
+    either(
+        is_int(0, ka),
+        Value::One(One::Id, b),
+        is_int(0, kb),
+        Value::One(One::Id, a),
+    )
 }
 
 // "0 times y is 0; 1 times y is id y; 2 times y is add y y; likewise on the other side".
 pub fn identity_mul(ka: Known, kb: Known, a: ValNum, b: ValNum) -> Value
     ensures { λ r. ⌜ expr-of r ≡ identity two-operands.Mul (known-of ka) (known-of kb) a b ⌝ }
 {
-    let by_zero = either(is_int(0, ka), Value::Int(0), is_int(0, kb), Value::Int(0));
-    let by_one = either(is_int(1, ka), Value::Id(b), is_int(1, kb), Value::Id(a));
+    let zero = Value::Constant(Constant::Int(0));
+    let by_zero = either(is_int(0, ka), zero, is_int(0, kb), zero);
+    let by_one = either(
+        is_int(1, ka),
+        Value::One(One::Id, b),
+        is_int(1, kb),
+        Value::One(One::Id, a),
+    );
     let by_two = either(
         is_int(2, ka),
-        Value::Add(b, b),
+        Value::Two(Two::Add, b, b),
         is_int(2, kb),
-        Value::Add(a, a),
+        Value::Two(Two::Add, a, a),
     );
     first(by_zero, first(by_one, by_two))
 }
@@ -216,13 +209,14 @@ pub fn identity_mul(ka: Known, kb: Known, a: ValNum, b: ValNum) -> Value
 pub fn absorb(z: bool, ka: Known, kb: Known, a: ValNum, b: ValNum) -> Value
     ensures { λ r. ⌜ expr-of r ≡ absorbs z (not z) (known-of ka) (known-of kb) a b ⌝ }
 {
-    let decided = either(
-        is_bool(z, ka),
-        Value::Bool(z),
-        is_bool(z, kb),
-        Value::Bool(z),
+    let decider = Value::Constant(Constant::Bool(z));
+    let decided = either(is_bool(z, ka), decider, is_bool(z, kb), decider);
+    let other = either(
+        is_bool(!z, ka),
+        Value::One(One::Id, b),
+        is_bool(!z, kb),
+        Value::One(One::Id, a),
     );
-    let other = either(is_bool(!z, ka), Value::Id(b), is_bool(!z, kb), Value::Id(a));
     first(decided, other)
 }
 
@@ -231,9 +225,9 @@ pub fn identity_eq(a: ValNum, b: ValNum) -> Value
     ensures { λ r. ⌜ ((x y : Option Val) → expr-of r ≡ identity two-operands.Eq x y a b) ⌝ }
 {
     if a.0 == b.0 {
-        return Value::Bool(true);
+        return Value::Constant(Constant::Bool(true));
     }
-    Value::Unique(0)
+    Value::Unique
 }
 
 // "p ptradd 0 is id p": of the int alone something can be known.
@@ -241,9 +235,9 @@ pub fn identity_ptr_add(kb: Known, a: ValNum) -> Value
     ensures { λ r. ⌜ ((x : Option Val) (b : ValNum) → expr-of r ≡ identity two-operands.PtrAdd x (known-of kb) a b) ⌝ }
 {
     if is_int(0, kb) {
-        return Value::Id(a);
+        return Value::One(One::Id, a);
     }
-    Value::Unique(0)
+    Value::Unique
 }
 
 // The identity that holds of an operator and what is known of its operands.
@@ -257,7 +251,7 @@ pub fn identity(o: Two, ka: Known, kb: Known, a: ValNum, b: ValNum) -> Value
         Two::And => absorb(false, ka, kb, a, b),
         Two::Or => absorb(true, ka, kb, a, b),
         Two::PtrAdd => identity_ptr_add(kb, a),
-        _ => Value::Unique(0),
+        _ => Value::Unique,
     }
 }
 
@@ -268,9 +262,9 @@ pub fn sort_val_nums(o: Two, a: ValNum, b: ValNum) -> Value
     ensures { λ r. ⌜ expr-of r ≡ some (sorted o a b) ⌝ }
 {
     if b.0 < a.0 {
-        form_two(o, b, a)
+        Value::Two(o, b, a)
     } else {
-        form_two(o, a, b)
+        Value::Two(o, a, b)
     }
 }
 
@@ -284,7 +278,7 @@ pub fn order(o: Two, a: ValNum, b: ValNum) -> Value
         Two::Eq => sort_val_nums(o, a, b),
         Two::And => sort_val_nums(o, a, b),
         Two::Or => sort_val_nums(o, a, b),
-        _ => form_two(o, a, b),
+        _ => Value::Two(o, a, b),
     }
 }
 
@@ -294,14 +288,14 @@ pub fn order(o: Two, a: ValNum, b: ValNum) -> Value
 pub fn simplify_one(o: One, k: Known, a: ValNum) -> Value
     ensures { λ r. ⌜ expr-of r ≡ some (simplify1 o (known-of k) a) ⌝ }
 {
-    first(constant(fold_one(o, k)), form_one(o, a))
+    first(fold_one(o, k), Value::One(o, a))
 }
 
 // An operator of two operands, of which ka and kb are known.
 pub fn simplify_two(o: Two, ka: Known, kb: Known, a: ValNum, b: ValNum) -> Value
     ensures { λ r. ⌜ expr-of r ≡ some (simplify2 o (known-of ka) (known-of kb) a b) ⌝ }
 {
-    let folded = constant(fold_two(o, ka, kb));
+    let folded = fold_two(o, ka, kb);
     let identical = identity(o, ka, kb, a, b);
     first(first(folded, identical), order(o, a, b))
 }

@@ -16,6 +16,7 @@ ghost use Rattle.numbering.specs.View.{expr-of};
 ghost use Rattle.lvn_values.specs.Table.{numbered-of, val-num-of};
 ghost use Rattle.lvn_state.specs.View.{env-of, locs-of, state-of, names-in, saved-of, itself, settled};
 ghost use Rattle.lvn_state.specs.Room.{Low, room, Maps};
+use arith::One;
 use lvn_values::Numbered;
 use numbering::ValNum;
 use numbering::Value;
@@ -264,10 +265,13 @@ pub fn writes_home(homes: &[u16], dest: NameIx, v: Value) -> bool
     ensures { λ r. ⌜ r ≡ itself (locs-of (now (homes .entry))) dest (expr-of v) ⌝ }
 {
     match v {
-        Value::Id(a) => {
-            let x = home_in(homes, a);
-            x.0 == dest.0
-        }
+        Value::One(o, a) => match o {
+            One::Id => {
+                let x = home_in(homes, a);
+                x.0 == dest.0
+            }
+            One::Not => false,
+        },
         _ => false,
     }
 }

@@ -1,11 +1,11 @@
 -- Only what is written for an expression is read as one, and it is read back.
-use Prim.Native.Nat.{ℕ, zero, suc, _+_, _*_, _/_, _%_, _<_, _≤_}
+use Prim.Native.Nat.{ℕ, zero, suc, _/_, _%_, _<_, _≤_}
 use mathlib.Core.Path.{_≡_, refl, sym, ap, _∙_}
 use mathlib.Core.Bool.{Bool, true, false, cond, _&&_}
 use mathlib.Core.Option.{Option, none, some}
 use native.Mathlib.Omega.{arith}
 use lib.Dec.{eqb}
-use borrow.Author.Tests.{eqb-true, eq-eqb, ne-eqb}
+use borrow.Author.Tests.{eqb-true, eq-eqb}
 use Rattle.arith.proofs.Clash.{clash}
 use Rattle.arith.specs.declared.One.{One}
 use Rattle.arith.specs.declared.One.the-variants.{Not, Id}
@@ -16,9 +16,12 @@ use Rattle.arith.specs.Equal.{one-of-code, two-of-code, Expr-discrete}
 use Rattle.arith.specs.Value.{Val, int, float, literal, char, bool, pointer}
 use Rattle.arith.specs.Operation.{Expr, constant, one, two}
 use Rattle.numbering.specs.declared.ValNum.{ValNum}
+use Rattle.numbering.specs.declared.Constant.{Constant}
+use Rattle.numbering.specs.declared.Constant.the-variants.{Int, IntAsFloat, Bool as Truth}
 use Rattle.numbering.specs.State.{vn, ValNum-discrete, known-value, known-expr}
 use Rattle.numbering.specs.Number.{same-expr}
-use Rattle.lvn_values.specs.Table.{packed, constant-tag, constant-bits, head-of, num-of, either, constant-for, unpacked, exactly, expr-at}
+use Rattle.numbering.specs.View.{val-of}
+use Rattle.lvn_values.specs.Table.{packed, int-tag, bool-tag, constant-tag, constant-bits, head-of, num-of, constant-for, unpacked, exactly, expr-at}
 
 -- ---- both tests of an entry
 and-left : (a b : Bool) → (a && b) ≡ true → a ≡ true
@@ -72,18 +75,23 @@ unfolding head-of num-of unpacked
 one-entry o a ha =
     read-back (code1 o) (a .0) 0 0 ha (omega arith) (one o a) (rw (not-two o, one-of-code o)) refl refl
 
-pub int-entry : (w : ℕ) → expr-at (packed 15 0 0) w ≡ some (constant (int w))
-unfolding head-of num-of unpacked constant-tag constant-bits one-of two-of with-code code1 code2
-int-entry w = read-back 15 0 0 w (omega arith) (omega arith) (constant (int w)) refl refl refl
+-- a constant, where its tag and its bits are read as it
+constant-at :
+    (v : Val) →
+    constant-for (constant-tag v) (constant-bits v) ≡ some v →
+    two-of (constant-tag v) ≡ none →
+    one-of (constant-tag v) ≡ none →
+    expr-at (head-of (constant v)) (num-of (constant v)) ≡ some (constant v)
+unfolding head-of num-of unpacked
+constant-at v e p q =
+    read-back (constant-tag v) 0 0 (constant-bits v) (omega arith) (omega arith) (constant v) (rw (p, q, e)) refl refl
 
-pub literal-entry : (w : ℕ) → expr-at (packed 16 0 0) w ≡ some (constant (literal w))
-unfolding head-of num-of unpacked constant-tag constant-bits one-of two-of with-code code1 code2
-literal-entry w = read-back 16 0 0 w (omega arith) (omega arith) (constant (literal w)) refl refl refl
-
-pub bool-entry : (b : Bool) → expr-at (packed 17 0 0) (cond b 1 0) ≡ some (constant (bool b))
-unfolding head-of num-of unpacked constant-tag constant-bits one-of two-of with-code code1 code2
-bool-entry true = read-back 17 0 0 1 (omega arith) (omega arith) (constant (bool true)) refl refl refl
-bool-entry false = read-back 17 0 0 0 (omega arith) (omega arith) (constant (bool false)) refl refl refl
+pub constant-read : (c : Constant) → expr-at (head-of (constant (val-of c))) (num-of (constant (val-of c))) ≡ some (constant (val-of c))
+unfolding constant-tag constant-bits one-of two-of with-code code1 code2
+constant-read (Int w) = constant-at (int w) refl refl refl
+constant-read (IntAsFloat w) = constant-at (literal w) refl refl refl
+constant-read (Truth true) = constant-at (bool true) refl refl refl
+constant-read (Truth false) = constant-at (bool false) refl refl refl
 
 -- a head of 0 says that nothing is known
 pub no-entry : (n : ℕ) → expr-at 0 n ≡ none
@@ -117,15 +125,15 @@ module _ (h n : ℕ) (e : Expr ValNum) (here : expr-at h n ≡ some e) where
       by (some g) p = differs g p (Expr-discrete ValNum-discrete g e)
 
 -- ---- what is known of an entry
-pub known-int : (n : ℕ) → known-expr (expr-at (packed 15 0 0) n) ≡ some (int n)
-unfolding known-expr known-value
-known-int n = ap known-expr (int-entry n)
+pub known-int : (n : ℕ) → known-expr (expr-at (packed int-tag 0 0) n) ≡ some (int n)
+unfolding known-expr known-value head-of num-of constant-tag constant-bits
+known-int n = ap known-expr (constant-read (Int n))
 
-pub known-bool : (b : Bool) → known-expr (expr-at (packed 17 0 0) (cond b 1 0)) ≡ some (bool b)
-unfolding known-expr known-value
-known-bool b = ap known-expr (bool-entry b)
+known-bool : (b : Bool) → known-expr (expr-at (packed bool-tag 0 0) (cond b 1 0)) ≡ some (bool b)
+unfolding known-expr known-value head-of num-of constant-tag constant-bits
+known-bool b = ap known-expr (constant-read (Truth b))
 
-pub known-none : (h n : ℕ) → (h ≡ packed 15 0 0 → ⊥) → (h ≡ packed 17 0 0 → n < 2 → ⊥) → known-expr (expr-at h n) ≡ none
+pub known-none : (h n : ℕ) → (h ≡ packed int-tag 0 0 → ⊥) → (h ≡ packed bool-tag 0 0 → n < 2 → ⊥) → known-expr (expr-at h n) ≡ none
 unfolding known-expr known-value head-of num-of constant-tag constant-bits
 known-none h n f g = by (expr-at h n) refl
   where
@@ -150,7 +158,7 @@ known-none h n f g = by (expr-at h n) refl
     by (some (one o a)) p = refl
     by (some (two o a b)) p = refl
 
-pub known-word : (h n : ℕ) → h ≡ packed 17 0 0 → n ≤ 1 → some (bool (eqb n 1)) ≡ known-expr (expr-at h n)
+pub known-word : (h n : ℕ) → h ≡ packed bool-tag 0 0 → n ≤ 1 → some (bool (eqb n 1)) ≡ known-expr (expr-at h n)
 known-word h zero e k = sym (ap (λ (a : ℕ). known-expr (expr-at a 0)) e ∙ known-bool false)
 known-word h (suc zero) e k = sym (ap (λ (a : ℕ). known-expr (expr-at a 1)) e ∙ known-bool true)
 known-word h (suc (suc n)) e k = absurd (omega arith)

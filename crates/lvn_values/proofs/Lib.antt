@@ -1,5 +1,4 @@
 pub mod Entries
-pub mod Arms
 pub mod Search
 pub mod Held
 pub mod Numbers

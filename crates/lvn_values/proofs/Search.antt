@@ -1,16 +1,16 @@
 -- The table read at a number, and a step of the search.
-use Prim.Native.Nat.{ℕ, zero, suc, _+_, _-_, _<_, _≤_}
-use mathlib.Core.Path.{_≡_, refl, sym, ap, _∙_}
-use mathlib.Core.Bool.{Bool, true, false, cond}
+use Prim.Native.Nat.{ℕ, suc, _+_, _-_, _<_, _≤_}
+use mathlib.Core.Path.{_≡_, sym, _∙_}
+use mathlib.Core.Bool.{cond}
 use mathlib.Core.List.{List}
-use mathlib.Core.Option.{Option, none, some}
+use mathlib.Core.Option.{none, some}
 use native.Mathlib.Numerals.{add-one}
 use native.Mathlib.Omega.{arith}
 use lib.ListN.{getD}
 use borrow.Author.Tests.{lt-ltb, le-ltb}
 use Rattle.arith.specs.Operation.{Expr}
 use Rattle.numbering.specs.declared.ValNum.{ValNum}
-use Rattle.numbering.specs.State.{State, vn}
+use Rattle.numbering.specs.State.{vn}
 use Rattle.numbering.specs.Number.{same-expr, find}
 use Rattle.lvn_values.specs.Table.{expr-at, vals-of}
 use Rattle.lvn_values.proofs.Entries.{same-entry, other-entry}

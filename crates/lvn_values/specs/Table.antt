@@ -18,13 +18,23 @@ use Rattle.lvn_values.specs.declared.Numbered.the-variants.{Unseen, Is}
 abbrev pub packed : ℕ → ℕ → ℕ → ℕ
 packed tag a b = tag * 0x1_0000_0000 + a * 0x1_0000 + b
 
--- constants have the tags behind those of the operators, which are their codes; 0 for those that are not numbered
+-- the tags of constants stand behind those of the operators, which are their codes
+abbrev pub int-tag : ℕ
+int-tag = 15
+
+abbrev pub literal-tag : ℕ
+literal-tag = 16
+
+abbrev pub bool-tag : ℕ
+bool-tag = 17
+
+-- 0 for those that are not numbered
 unfoldable pub constant-tag : Val → ℕ
-constant-tag (int w) = 15
+constant-tag (int w) = int-tag
 constant-tag (float b) = 0
-constant-tag (literal w) = 16
+constant-tag (literal w) = literal-tag
 constant-tag (char c) = 0
-constant-tag (bool b) = 17
+constant-tag (bool b) = bool-tag
 constant-tag (pointer t b o) = 0
 
 unfoldable pub constant-bits : Val → ℕ
@@ -52,7 +62,9 @@ either (some x) f other = some (f x)
 
 abbrev pub constant-for : ℕ → ℕ → Option Val
 constant-for tag bits =
-    cond (eqb tag 15) (some (int bits)) (cond (eqb tag 16) (some (literal bits)) (cond (eqb tag 17) (some (bool (eqb bits 1))) none))
+    cond (eqb tag int-tag) (some (int bits))
+    (cond (eqb tag literal-tag) (some (literal bits))
+    (cond (eqb tag bool-tag) (some (bool (eqb bits 1))) none))
 
 unfoldable pub unpacked : ℕ → ValNum → ValNum → ℕ → Option (Expr ValNum)
 unpacked tag a b bits =

@@ -2,16 +2,18 @@
 // constant.
 ghost use mathlib.Core.Path.{_≡_};
 ghost use mathlib.Core.Option.{some};
-ghost use Prim.Native.Nat.{ℕ, _<_, _≤_, _*_};
+ghost use Prim.Native.Nat.{_<_, _≤_, _*_};
 ghost use lib.ListN.{length};
-ghost use Rattle.arith.specs.Operation.{Expr};
+ghost use Rattle.arith.specs.Operation.{Expr, constant};
 ghost use Rattle.numbering.specs.declared.ValNum.{ValNum};
 ghost use Rattle.numbering.specs.State.{State, known-expr};
 ghost use Rattle.numbering.specs.Number.{find};
-ghost use Rattle.numbering.specs.View.{expr-of};
+ghost use Rattle.numbering.specs.View.{val-of, expr-of};
 ghost use Rattle.lvn_simplify.specs.View.{known-of};
-ghost use Rattle.lvn_values.specs.Table.{packed, expr-at, vals-of, holds, numbered-of, val-num-of};
+ghost use Rattle.lvn_values.specs.Table.{packed, head-of, num-of, expr-at, vals-of, holds, numbered-of, val-num-of};
+use arith::One;
 use lvn_simplify::Known;
+use numbering::Constant;
 use numbering::ValNum;
 use numbering::Value;
 
@@ -27,25 +29,37 @@ pub struct Entry {
     pub num: u64,
 }
 
-// Of an operator with the tag t and its operands.
-pub fn operation(tag: u64, a: ValNum, b: ValNum) -> Entry
-    requires { ⌜ tag < 65536 ⌝ }
-    ensures { λ r. ⌜ (r ≡ record { head = packed tag (a .0) (b .0); num = 0 }) × ((a .0 < 65536) × (b .0 < 65536)) ⌝ }
+// The heads of constants: their tags stand behind those of the operators, which are their codes.
+const INT: u64 = 15 * 0x1_0000_0000;
+
+const INT_AS_FLOAT: u64 = 16 * 0x1_0000_0000;
+
+const BOOL: u64 = 17 * 0x1_0000_0000;
+
+// Of the operator with this code and its operands.
+pub fn operation_entry(code: u8, a: ValNum, b: ValNum) -> Entry
+    ensures { λ r. ⌜ (r ≡ record { head = packed code (a .0) (b .0); num = 0 }) × ((a .0 < 65536) × (b .0 < 65536)) ⌝ }
 {
     Entry {
-        head: tag * 0x1_0000_0000 + (a.0 as u64) * 0x1_0000 + (b.0 as u64),
+        head: (code as u64) * 0x1_0000_0000 + (a.0 as u64) * 0x1_0000 + (b.0 as u64),
         num: 0,
     }
 }
 
-// Of a constant: its tag and its bits.
-pub fn constant(tag: u64, bits: u64) -> Entry
-    requires { ⌜ tag < 65536 ⌝ }
-    ensures { λ r. ⌜ r ≡ record { head = tag * 0x1_0000_0000; num = bits } ⌝ }
+// Of a constant.
+pub fn constant_entry(c: Constant) -> Entry
+    ensures { λ r. ⌜ r ≡ record { head = head-of (constant (val-of c)); num = num-of (constant (val-of c)) } ⌝ }
 {
-    Entry {
-        head: tag * 0x1_0000_0000,
-        num: bits,
+    match c {
+        Constant::Int(w) => Entry { head: INT, num: w },
+        Constant::IntAsFloat(w) => Entry {
+            head: INT_AS_FLOAT,
+            num: w,
+        },
+        Constant::Bool(b) => Entry {
+            head: BOOL,
+            num: b as u64,
+        },
     }
 }
 
@@ -54,24 +68,10 @@ pub fn entry_of(v: Value) -> Entry
     ensures { λ r. ⌜ expr-at (r .head) (r .num) ≡ expr-of v ⌝ }
 {
     match v {
-        Value::Unique(_) => constant(0, 0),
-        Value::Add(a, b) => operation(1, a, b),
-        Value::Mul(a, b) => operation(3, a, b),
-        Value::Sub(a, b) => operation(2, a, b),
-        Value::Div(a, b) => operation(4, a, b),
-        Value::Id(a) => operation(13, a, ValNum(0)),
-        Value::Eq(a, b) => operation(5, a, b),
-        Value::Lt(a, b) => operation(6, a, b),
-        Value::Gt(a, b) => operation(7, a, b),
-        Value::Le(a, b) => operation(8, a, b),
-        Value::Ge(a, b) => operation(9, a, b),
-        Value::And(a, b) => operation(11, a, b),
-        Value::Or(a, b) => operation(12, a, b),
-        Value::Not(a) => operation(10, a, ValNum(0)),
-        Value::Bool(b) => constant(17, b as u64),
-        Value::Int(z) => constant(15, words::bits_of(z)),
-        Value::IntAsFloat(z) => constant(16, words::bits_of(z)),
-        Value::PtrAdd(a, b) => operation(14, a, b),
+        Value::Unique => Entry { head: 0, num: 0 },
+        Value::Constant(c) => constant_entry(c),
+        Value::One(o, a) => operation_entry(codes::code1(o), a, ValNum(0)),
+        Value::Two(o, a, b) => operation_entry(codes::code2(o), a, b),
     }
 }
 
@@ -79,16 +79,16 @@ pub fn entry_of(v: Value) -> Entry
 pub fn known_entry(head: u64, num: u64) -> Known
     ensures { λ r. ⌜ known-of r ≡ known-expr (expr-at head num) ⌝ }
 {
-    if head == 15 * 0x1_0000_0000 {
-        return Known::Int(num);
+    if head == INT {
+        return Known::Is(Constant::Int(num));
     }
-    if head != 17 * 0x1_0000_0000 {
+    if head != BOOL {
         return Known::Nothing;
     }
     if num > 1 {
         return Known::Nothing;
     }
-    Known::Bool(num == 1)
+    Known::Is(Constant::Bool(num == 1))
 }
 
 // What is known of a number.
@@ -162,11 +162,11 @@ pub fn get_val_num(heads: &[u64], nums: &[u64], count: u16, v: Value) -> Numbere
         numbered-of r ≡ val-num-of s (expr-of v)) ⌝ }
 {
     match v {
-        Value::Unique(_) => Numbered::Unseen,
-        Value::Id(a) => Numbered::Is(a),
-        _ => {
-            let e = entry_of(v);
-            look_up(heads, nums, count, e)
-        }
+        Value::Unique => Numbered::Unseen,
+        Value::One(o, a) => match o {
+            One::Id => Numbered::Is(a),
+            One::Not => look_up(heads, nums, count, entry_of(v)),
+        },
+        _ => look_up(heads, nums, count, entry_of(v)),
     }
 }

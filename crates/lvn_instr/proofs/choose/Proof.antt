@@ -1,4 +1,4 @@
--- `lvn_instr::choose` meets its contract.
+-- `lvn_instr::choose` meets its contract: by whether the value has a number.
 use mathlib.Core.Option.{Option}
 use mathlib.Core.Path.{sym, ap, _∙_}
 use borrow.Author.Needs.{needs}

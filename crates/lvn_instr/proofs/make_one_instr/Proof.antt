@@ -1,4 +1,4 @@
--- `lvn_instr::make_one_instr` meets its contract.
+-- `lvn_instr::make_one_instr` meets its contract: field by field.
 use mathlib.Core.List.{[], _∷_}
 use native.Mathlib.Omega.{arith}
 use lib.ListN.{take}

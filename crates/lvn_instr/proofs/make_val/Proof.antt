@@ -1,4 +1,4 @@
--- `lvn_instr::make_val` meets its contract.
+-- `lvn_instr::make_val` meets its contract: by the operation.
 use Prim.Native.Nat.{ℕ}
 use mathlib.Core.Path.{sym, ap, _∙_, subst}
 use borrow.Author.Needs.{needs}
@@ -40,14 +40,13 @@ returns-3 c =
     )
 
 returns-4 : tie.Need-returns-4
-returns-4 c = let b = c .before .before .before .before .before in (
-  (λ s types h e. c .unknown .ensures ∙ new-arm (b .args .t5) (b .pre .0) s types (c .before .match .keys4)),
-  subst (MaybeOk Any 65535) (sym (c .unknown .ensures)) tt,
-)
+returns-4 c =
+    let b = c .before .before .before .before in
+    ((λ s types h e. new-arm (b .args .t5) (b .pre .0) s types (c .match .keys4)), tt)
 
 pub make-val-spec : {M : Type 1} → statement M
 make-val-spec =
     tie.close
     (tie.spec (λ c. search needs) (λ c κs. search needs) (λ c. search needs) (λ c. search needs)
     (λ c κs. search needs) (λ c. search needs) (λ c. search needs) (λ c. search needs) (λ c κs. search needs)
-    (λ c κs. search needs) returns returns-2 returns-3 returns-4)
+    returns returns-2 returns-3 returns-4)

@@ -1,4 +1,4 @@
--- `lvn_instr::value_two` meets its contract.
+-- `lvn_instr::value_two` meets its contract: what is read in any such state is simplified.
 use Prim.Native.Nat.{_<_}
 use mathlib.Core.Path.{refl}
 use native.Mathlib.Omega.{arith}

@@ -1,13 +1,11 @@
--- `lvn_simplify::absorb` meets its contract.
+-- `lvn_simplify::absorb` meets its contract: by the steps of a test on each side, the deciding bool first.
 use borrow.Author.Needs.{needs}
-use Rattle.numbering.specs.View.{expr-of}
 use Rattle.lvn_simplify.specs.View.{known-of}
 use Rattle.lvn_simplify.proofs.Identities.{absorb-steps}
 use Rattle.lvn_simplify.proofs.absorb.Statement.{statement}
 use Rattle.lvn_simplify.proofs.absorb.Tie as tie
 
 returns : tie.Need-returns
-unfolding expr-of
 returns c =
     let w = c .before .before .before .before in
     let a = w .before .before .before .args in

@@ -1,4 +1,4 @@
--- `lvn_simplify::fold_bools` meets its contract.
+-- `lvn_simplify::fold_bools` meets its contract: by the operator.
 use borrow.Author.Needs.{needs}
 use Rattle.arith.specs.Operation.{asBool, with-both, apply2}
 use Rattle.numbering.specs.Simplify.{folded}

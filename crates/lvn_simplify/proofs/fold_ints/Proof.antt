@@ -1,4 +1,4 @@
--- `lvn_simplify::fold_ints` meets its contract.
+-- `lvn_simplify::fold_ints` meets its contract: by the operator, with what the words' operations give.
 use borrow.Author.Needs.{needs}
 use Rattle.arith.specs.Operation.{asInt, asBool, with-both, with-one, shift, apply2}
 use Rattle.numbering.specs.Simplify.{folded}

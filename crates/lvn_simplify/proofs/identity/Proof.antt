@@ -1,6 +1,5 @@
--- `lvn_simplify::identity` meets its contract.
+-- `lvn_simplify::identity` meets its contract: by the operator.
 use borrow.Author.Needs.{needs}
-use Rattle.numbering.specs.View.{expr-of}
 use Rattle.numbering.specs.Simplify.{identity}
 use Rattle.lvn_simplify.specs.View.{known-of}
 use Rattle.lvn_simplify.proofs.Others.{no-identity}
@@ -8,22 +7,12 @@ use Rattle.lvn_simplify.proofs.identity.Statement.{statement}
 use Rattle.lvn_simplify.proofs.identity.Tie as tie
 
 pub identity-spec : {M : Type 1} → statement M
-unfolding identity expr-of
+unfolding identity
 identity-spec =
     tie.close
-    (tie.spec
-    (λ c. search needs)
-    (λ c κs. search needs)
-    (λ c. search needs)
-    (λ c κs. search needs)
-    (λ c. search needs)
-    (λ c κs. search needs)
-    (λ c. search needs)
-    (λ c κs. search needs)
-    (λ c. search needs)
-    (λ c κs. search needs)
-    (λ c. search needs)
-    (λ c κs. search needs)
+    (tie.spec (λ c. search needs) (λ c κs. search needs) (λ c. search needs) (λ c κs. search needs) (λ c. search needs)
+    (λ c κs. search needs) (λ c. search needs) (λ c κs. search needs) (λ c. search needs) (λ c κs. search needs)
+    (λ c. search needs) (λ c κs. search needs)
     (λ c. rw (c .before .enum-told .given .1) (c .identity-add .ensures))
     (λ c. rw (c .before .enum-told2 .given .1) (c .identity-mul .ensures))
     (λ c.

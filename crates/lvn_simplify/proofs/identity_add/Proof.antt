@@ -1,13 +1,11 @@
--- `lvn_simplify::identity_add` meets its contract.
+-- `lvn_simplify::identity_add` meets its contract: by the steps of a test on each side.
 use borrow.Author.Needs.{needs}
-use Rattle.numbering.specs.View.{expr-of}
 use Rattle.lvn_simplify.specs.View.{known-of}
 use Rattle.lvn_simplify.proofs.Identities.{add-steps}
 use Rattle.lvn_simplify.proofs.identity_add.Statement.{statement}
 use Rattle.lvn_simplify.proofs.identity_add.Tie as tie
 
 returns : tie.Need-returns
-unfolding expr-of
 returns c =
     let w = c .before .before in
     let a = w .before .args in

@@ -1,13 +1,11 @@
--- `lvn_simplify::identity_mul` meets its contract.
+-- `lvn_simplify::identity_mul` meets its contract: by the steps of a test on each side, for 0, 1 and 2 in turn.
 use borrow.Author.Needs.{needs}
-use Rattle.numbering.specs.View.{expr-of}
 use Rattle.lvn_simplify.specs.View.{known-of}
 use Rattle.lvn_simplify.proofs.Identities.{mul-steps}
 use Rattle.lvn_simplify.proofs.identity_mul.Statement.{statement}
 use Rattle.lvn_simplify.proofs.identity_mul.Tie as tie
 
 returns : tie.Need-returns
-unfolding expr-of
 returns c =
     let two = c .before .before in
     let one = two .before .before .before in

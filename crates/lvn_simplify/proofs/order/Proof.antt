@@ -1,4 +1,4 @@
--- `lvn_simplify::order` meets its contract.
+-- `lvn_simplify::order` meets its contract: by the operator.
 use mathlib.Core.Option.{some}
 use mathlib.Core.Path.{ap, _∙_}
 use borrow.Author.Needs.{needs}
@@ -11,23 +11,11 @@ pub order-spec : {M : Type 1} → statement M
 unfolding ordered
 order-spec =
     tie.close
-    (tie.spec
-    (λ c. search needs)
-    (λ c κs. search needs)
-    (λ c. search needs)
-    (λ c κs. search needs)
-    (λ c. search needs)
-    (λ c κs. search needs)
-    (λ c. search needs)
-    (λ c κs. search needs)
-    (λ c. search needs)
-    (λ c κs. search needs)
-    (λ c κs. search needs)
+    (tie.spec (λ c. search needs) (λ c κs. search needs) (λ c. search needs) (λ c κs. search needs) (λ c. search needs)
+    (λ c κs. search needs) (λ c. search needs) (λ c κs. search needs) (λ c. search needs) (λ c κs. search needs)
     (λ c. c .sort-val-nums .ensures ∙ rw (c .before .enum-told .given .1))
     (λ c. c .sort-val-nums2 .ensures ∙ rw (c .before .enum-told2 .given .1))
     (λ c. c .sort-val-nums3 .ensures ∙ rw (c .before .enum-told3 .given .1))
     (λ c. c .sort-val-nums4 .ensures ∙ rw (c .before .enum-told4 .given .1))
     (λ c. c .sort-val-nums5 .ensures ∙ rw (c .before .enum-told5 .given .1))
-    (λ c.
-    let a = c .before .before .args in
-    c .form-two .ensures ∙ ap some (as-it-stands (a .a) (a .b) (a .o) (c .before .match .keys6))))
+    (λ c. let a = c .before .args in ap some (as-it-stands (a .a) (a .b) (a .o) (c .match .keys6))))

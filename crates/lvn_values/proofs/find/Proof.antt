@@ -1,3 +1,4 @@
+-- `lvn_values::find` meets its contract: the search from here on gives the whole answer.
 use mathlib.Core.Logic.{⊎-elim}
 use Rattle.lvn_values.proofs.Search.{search-none, hit, other-head, other-num}
 use Rattle.lvn_values.specs.Table.{expr-at, vals-of}
@@ -7,12 +8,10 @@ use Rattle.arith.specs.Operation.{Expr}
 use borrow.Author.Needs.{needs}
 use native.Mathlib.Omega.{arith}
 use mathlib.Core.Option.{some}
-use mathlib.Core.Path.{_≡_, refl, sym, ap, _∙_}
-use Prim.Native.Nat.{ℕ, zero, suc, _+_, _-_, _<_, _≤_}
+use mathlib.Core.Path.{_≡_, _∙_}
+use Prim.Native.Nat.{_-_, _≤_}
 use Rattle.lvn_values.proofs.find.Statement.{statement}
 use Rattle.lvn_values.proofs.find.Tie as tie
-use Rattle.lvn_values.proofs.find.Reads as reads
-use Rattle.lvn_values.proofs.find.Lts as lts
 
 abbrev Inv-loop : tie.InvT-loop
 Inv-loop heads nums count head num i₀ i = (i ≤ count) ×

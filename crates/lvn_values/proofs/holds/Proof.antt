@@ -1,4 +1,4 @@
--- `lvn_values::holds` meets its contract.
+-- `lvn_values::holds` meets its contract: what was met before or is met from here on is the whole answer.
 use Prim.Native.Nat.{_-_, _≤_}
 use mathlib.Core.Bool.{_||_}
 use mathlib.Core.Path.{_≡_, ap, _∙_}

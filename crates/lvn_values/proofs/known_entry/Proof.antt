@@ -1,16 +1,12 @@
+-- `lvn_values::known_entry` meets its contract: by the head, and a bool by its word.
 use Rattle.lvn_values.proofs.Entries.{known-int, known-none, known-word}
-use Rattle.lvn_values.specs.Table.{expr-at}
+use Rattle.lvn_values.specs.Table.{packed, bool-tag, expr-at}
 use Rattle.numbering.specs.State.{known-expr}
-use Prim.Native.Nat.{ℕ, _<_}
-use mathlib.Core.Option.{some}
-use Rattle.arith.specs.Value.{int}
+use Prim.Native.Nat.{ℕ}
 use native.Mathlib.Omega.{arith}
-use mathlib.Core.Path.{_≡_, refl, sym, ap, _∙_}
-use borrow.Author.Needs.{needs}
+use mathlib.Core.Path.{_≡_, sym, ap, _∙_}
 use Rattle.lvn_values.proofs.known_entry.Statement.{statement}
 use Rattle.lvn_values.proofs.known_entry.Tie as tie
-use Rattle.lvn_values.proofs.known_entry.Reads as reads
-use Rattle.lvn_values.proofs.known_entry.Lts as lts
 
 returns : tie.Need-returns
 returns c = let a = c .before .args in sym (known-int (a .num)) ∙ ap (λ (h : ℕ). known-expr (expr-at h (a .num))) (sym (c .if1 .taken))
@@ -22,9 +18,10 @@ returns-3 : tie.Need-returns-3
 returns-3 c = sym (known-none _ _ (c .before .before .if1 .left) (λ e n. let t = c .if3 .taken in omega arith))
 
 returns-4 : tie.Need-returns-4
-returns-4 c = let a = c .before .before .before .args in
-    let e : a .head ≡ 73014444032 = c .before .if2 .left in
+returns-4 c =
+    let a = c .before .before .before .args in
+    let e : a .head ≡ packed bool-tag 0 0 = c .before .if2 .left in
     known-word (a .head) (a .num) e (c .if3 .left)
 
 pub known-entry-spec : {M : Type 1} → statement M
-known-entry-spec = tie.close (tie.spec (λ c. search needs) returns (λ c. search needs) returns-2 returns-3 returns-4)
+known-entry-spec = tie.close (tie.spec returns returns-2 returns-3 returns-4)

@@ -1,4 +1,4 @@
--- `lvn_values::look_up` meets its contract.
+-- `lvn_values::look_up` meets its contract: where the head, or the constant, stands nowhere, the search finds nothing.
 use mathlib.Core.Path.{sym, _∙_}
 use borrow.Author.Needs.{needs}
 use borrow.Author.Tests.{not-true}

@@ -1,4 +1,4 @@
--- `words::add` meets its contract.
+-- `words::add` meets its contract: what the library ensures is the sum.
 use borrow.Author.Needs.{needs}
 use Rattle.arith.specs.Word.{addW}
 use Rattle.words.proofs.add.Statement.{statement}

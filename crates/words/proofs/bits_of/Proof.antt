@@ -1,4 +1,4 @@
--- `words::bits_of` meets its contract.
+-- `words::bits_of` meets its contract: by the sign.
 use Prim.Native.Nat.{_-_, _^_}
 use mathlib.Core.Path.{_≡_}
 use native.Mathlib.Omega.{arith}

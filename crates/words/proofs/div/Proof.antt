@@ -1,4 +1,4 @@
--- `words::div` meets its contract.
+-- `words::div` meets its contract: by whether the signs agree.
 use Prim.Native.Nat.{ℕ, _<_, _/_}
 use mathlib.Core.Path.{sym, _∙_, ap₂, subst}
 use mathlib.Core.Bool.{Bool·beq}

@@ -1,4 +1,4 @@
--- `words::divide` meets its contract.
+-- `words::divide` meets its contract: by the two cases that stop.
 use Prim.Native.Nat.{ℕ}
 use mathlib.Core.Path.{_≡_, ap, _∙_}
 use mathlib.Core.Logic.{⊎-elim}

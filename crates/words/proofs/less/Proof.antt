@@ -1,4 +1,4 @@
--- `words::less` meets its contract.
+-- `words::less` meets its contract: the order of words shifted by half their range.
 use mathlib.Core.Path.{ap₂}
 use lib.Dec.{ltb}
 use borrow.Author.Needs.{needs}

@@ -1,4 +1,4 @@
--- `words::mul` meets its contract.
+-- `words::mul` meets its contract: the products of halves make the product.
 use mathlib.Core.Path.{_∙_}
 use native.Mathlib.Omega.{arith}
 use borrow.Author.Needs.{needs}

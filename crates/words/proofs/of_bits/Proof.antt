@@ -1,4 +1,4 @@
--- `words::of_bits` meets its contract.
+-- `words::of_bits` meets its contract: by the sign.
 use Prim.Native.Nat.{_-_}
 use mathlib.Core.Path.{_≡_, ap}
 use native.Mathlib.Omega.{arith}

@@ -1,4 +1,4 @@
--- `words::size` meets its contract.
+-- `words::size` meets its contract: by the sign.
 use mathlib.Core.Path.{_∙_}
 use native.Mathlib.Omega.{arith}
 use borrow.Author.Needs.{needs}

@@ -1,4 +1,4 @@
--- `words::sub` meets its contract.
+-- `words::sub` meets its contract: what the library ensures is the difference.
 use native.Mathlib.Omega.{arith}
 use borrow.Author.Needs.{needs}
 use Rattle.words.proofs.Division.{difference}
