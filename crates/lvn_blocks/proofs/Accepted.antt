@@ -1,12 +1,11 @@
 -- Instructions of an accepted record, read again, are ones that numbering takes: their names are below 256, they read their arguments,
 -- and their operations are of the codes that they have.
-use Prim.Native.Nat.{ℕ, suc, _+_, _-_, _<_, _≤_}
+use Prim.Native.Nat.{ℕ, _+_, _<_, _≤_}
 use mathlib.Core.Path.{_≡_, refl, sym, ap, _∙_, subst}
 use mathlib.Core.Logic.{_≢_}
 use mathlib.Core.List.{List, [], _∷_}
 use mathlib.Core.Bool.{Bool, true, false, not, _&&_, _||_, true≢false}
 use native.Mathlib.Omega.{arith}
-use lib.ListN.{length}
 use lib.Dec.{ltb, eqb}
 use borrow.Author.Tests.{ltb-true, eq-eqb, not-true}
 use Rattle.arith.specs.Code.{code1, code2, with-code, one-of, two-of}
@@ -18,7 +17,7 @@ use Rattle.record.specs.Shape.{shape-of}
 use Rattle.record.specs.Form.{form}
 use Rattle.record.specs.Reader.{num-at}
 use Rattle.record.specs.Good.{There, Each, IndexOk, InstrOk}
-use Rattle.record.specs.Decode.{items, behind, operands-from, instr-from, instr-end}
+use Rattle.record.specs.Decode.{operands-from, instr-from}
 use Rattle.record.proofs.Tests.{and-left, and-right, below-lt, code-known}
 use Rattle.record.proofs.Form.{all-below, at-known}
 use Rattle.numbering.specs.Number.{reads}
@@ -28,7 +27,6 @@ use Rattle.read_instrs.specs.declared.Read.{Read}
 use Rattle.read_instrs.specs.Again.{ReadAgain}
 use Rattle.lvn_state.specs.Room.{Low}
 use Rattle.lvn_instr.specs.View.{Formed, Fit, Ready}
-use Rattle.lvn_blocks.specs.Block.{instrs-from, instrs-end, Passing}
 
 -- ---- the operation of a code
 formed : Op → Bool
@@ -107,20 +105,3 @@ ready {w} {N} {B} {left} {s} {at} {r} few h a =
       formed = subst Formed (ap op-of (code-from w s at) ∙ sym (a .op)) (op-formed (i .code) known);
       fit = subst Fit (sym (a .instr)) (instr-fit (λ x. 0) i h few);
     }
-
--- ---- instructions in a row
-pub one-more : (n : ℕ) → 0 < n → n ≡ suc (n - 1)
-one-more n h = omega arith
-
-module _ (w : ℕ) (s : List ℕ) (p n : ℕ) (h : 0 < n) where
-  pub instrs-more : instrs-from w s p n ≡ instr-from w s p ∷ instrs-from w s (instr-end w s p) (n - 1)
-  unfolding instrs-from items
-  instrs-more = ap (items (instr-from w s) (instr-end w s) p) (one-more n h)
-
-  pub end-more : instrs-end w s p n ≡ instrs-end w s (instr-end w s p) (n - 1)
-  unfolding instrs-end behind
-  end-more = ap (behind (instr-end w s) p) (one-more n h)
-
-pub passing-all : (N B : ℕ) (is : List Instr) → Each (InstrOk N B) is → Passing N is
-passing-all N B [] h = tt
-passing-all N B (i ∷ is) h = (record { blocks = B; left = length is; ok = h .0 }, passing-all N B is (h .1))

@@ -8,12 +8,14 @@ use Rattle.record.specs.declared.NameIx.{NameIx}
 use Rattle.record.specs.Record.{Instr, Block, Function, names-of, type-in}
 use Rattle.record.specs.Write.{join, block-bytes}
 use Rattle.record.specs.Decode.{items, behind, block-end}
+use Rattle.record.specs.Again.{block-in, blocks-in, blocks-behind, BlocksPass}
+use Rattle.record.specs.Sizes.{longest-block, longest-block-lines, places-end}
+use Rattle.record.proofs.Again.{one-more}
 use Rattle.numbering.specs.Number.{Numbered, blocks-lvn, saved-in, made-from}
 use Rattle.write_bytes.proofs.Wrote.{Rest, rest-all, rest-less, rest-none}
 use Rattle.lvn_blocks.specs.declared.Places.{Places}
-use Rattle.lvn_blocks.specs.Block.{indexes}
-use Rattle.lvn_blocks.specs.Blocks.{block-in, blocks-in, blocks-behind, BlocksPass, BlocksAsk, block-as, BlockDone, numbered-in, BlocksDone}
-use Rattle.lvn_blocks.proofs.Accepted.{one-more}
+use Rattle.lvn_blocks.specs.Block.{indexes, most-made}
+use Rattle.lvn_blocks.specs.Blocks.{BlocksAsk, block-as, BlockDone, numbered-in, BlocksDone}
 
 -- ---- blocks in a row
 module _ (w : ℕ) (s : List ℕ) (p n : ℕ) (h : 0 < n) where
@@ -66,7 +68,7 @@ pub record Going
       Rest made (a .k) (all-saved (names-of f) (blocks-lvn f (a .k) (blocks-in w s (a .p) n))) made₀ (a₀ .k)
       (all-saved (names-of f) (blocks-lvn f (a₀ .k) (blocks-in w s (a₀ .p) n₀)))
   pub next : blocks-behind w s (a .p) n ≡ blocks-behind w s (a₀ .p) n₀
-  pub close : a .q + 24000 * n ≤ a₀ .q + 24000 * n₀
+  pub close : a .q + longest-block-lines * n ≤ a₀ .q + longest-block-lines * n₀
   pub few : a .k + 256 * n ≤ a₀ .k + 256 * n₀
 
 module _ {w : ℕ} {f : Function} {s : List ℕ} {a₀ : Places} {n₀ : ℕ} {made₀ out₀ : List ℕ} where
@@ -84,7 +86,7 @@ module _ {w : ℕ} {f : Function} {s : List ℕ} {a₀ : Places} {n₀ : ℕ} {m
         written = rest-none _ (ap (all-bytes w) e) (g .written);
         noted = rest-none _ (ap (all-saved (names-of f)) e) (g .noted);
         next = ap (blocks-behind w s (a .p)) (sym z) ∙ g .next;
-        close = let x : a .q + 24000 * n ≤ a₀ .q + 24000 * n₀ = g .close in omega arith;
+        close = let x : a .q + longest-block-lines * n ≤ a₀ .q + longest-block-lines * n₀ = g .close in omega arith;
         few = let x : a .k + 256 * n ≤ a₀ .k + 256 * n₀ = g .few in omega arith;
       }
 
@@ -109,7 +111,7 @@ module _ {w : ℕ} {f : Function} {s : List ℕ} {a₀ : Places} {n₀ : ℕ} {m
             ap (λ (x : List (Block Instr)). indexes (saved-in (names-of f) (b .body)) ++ all-saved (names-of f) x) (sym e))
             (d .noted) (g .noted);
         next = ap (λ (p : ℕ). blocks-behind w s p (n - 1)) (d .next) ∙ sym (behind-more w s (a .p) n h) ∙ g .next;
-        close = let x : a .q + 24000 * n ≤ a₀ .q + 24000 * n₀ = g .close in let y : r .q ≤ a .q + 24000 = d .close in omega arith;
+        close = let x : a .q + longest-block-lines * n ≤ a₀ .q + longest-block-lines * n₀ = g .close in let y : r .q ≤ a .q + longest-block-lines = d .close in omega arith;
         few = let x : a .k + 256 * n ≤ a₀ .k + 256 * n₀ = g .few in let y : r .k ≤ a .k + 256 = d .few in omega arith;
       }
 
@@ -121,9 +123,9 @@ module _ {w N args : ℕ} {a : Places} (n : ℕ) {hs ns : List ℕ} (h : 0 < n) 
         width = b .width;
         names = b .names;
         arguments = b .arguments;
-        made = let x : a .k + 256 * n ≤ 32768 = b .made in omega arith;
-        reads = let x : a .p + 12000 * n < 4294960000 = b .reads in omega arith;
-        writes = let x : a .q + 24000 * n < 4294960000 = b .writes in omega arith;
+        made = let x : a .k + 256 * n ≤ most-made = b .made in omega arith;
+        reads = let x : a .p + longest-block * n < places-end = b .reads in omega arith;
+        writes = let x : a .q + longest-block-lines * n < places-end = b .writes in omega arith;
         tables = b .tables;
       }
 
@@ -138,9 +140,9 @@ module _ {w N args : ℕ} {a : Places} (n : ℕ) {hs ns : List ℕ} (h : 0 < n) 
         width = b .width;
         names = b .names;
         arguments = b .arguments;
-        made = let x : a .k + 256 * n ≤ 32768 = b .made in let y : r .k ≤ a .k + 256 = d .few in omega arith;
-        reads = let x : a .p + 12000 * n < 4294960000 = b .reads in let y : r .p ≤ a .p + 12000 = d .near in omega arith;
-        writes = let x : a .q + 24000 * n < 4294960000 = b .writes in let y : r .q ≤ a .q + 24000 = d .close in omega arith;
+        made = let x : a .k + 256 * n ≤ most-made = b .made in let y : r .k ≤ a .k + 256 = d .few in omega arith;
+        reads = let x : a .p + longest-block * n < places-end = b .reads in let y : r .p ≤ a .p + longest-block = d .near in omega arith;
+        writes = let x : a .q + longest-block-lines * n < places-end = b .writes in let y : r .q ≤ a .q + longest-block-lines = d .close in omega arith;
         tables =
             let x : 512 ≤ length hs = b .tables .heads in
             let y : 512 ≤ length ns = b .tables .nums in

@@ -6,13 +6,15 @@ use native.Mathlib.Omega.{arith}
 use lib.ListN.{length-map}
 use Rattle.record.specs.declared.NameIx.{NameIx}
 use Rattle.record.specs.Record.{Function}
+use Rattle.record.specs.Again.{blocks-in, BlocksPass}
 use Rattle.numbering.specs.Number.{count-saves, saved-in}
 use Rattle.numbering.proofs.Made.{saved-in-length}
 use Rattle.lvn_blocks.specs.declared.Places.{Places}
 use Rattle.lvn_blocks.specs.declared.Spot.{Spot}
 use Rattle.lvn_blocks.specs.declared.SaveCount.{SaveCount}
-use Rattle.lvn_blocks.specs.Blocks.{blocks-in, BlocksPass, BlocksAsk, BlockDone, numbered-in, BlocksDone}
+use Rattle.lvn_blocks.specs.Blocks.{BlocksAsk, BlockDone, numbered-in, BlocksDone}
 use Rattle.lvn_blocks.specs.Counted.{places, CountAsk, CountDone}
+use Rattle.lvn_blocks.specs.Block.{most-made}
 use Rattle.lvn_blocks.proofs.Blocks.{ask-one, pass-first}
 
 module _ {w N args : ℕ} {s : List ℕ} {ty : NameIx → ℕ} {made made′ out out′ : List ℕ} where
@@ -65,7 +67,7 @@ count-asks {w} {s = s} k at c n h b p e =
     record {
       ask = ask-one n h b;
       pass = pass-first w s (at .p) n h p;
-      total = let x : c .k + 256 * n ≤ 32768 = b .made in omega arith;
+      total = let x : c .k + 256 * n ≤ most-made = b .made in omega arith;
     }
 
 -- K behind all blocks, as the total says it

@@ -10,9 +10,12 @@ use Rattle.record.specs.Reader.{num-at}
 use Rattle.record.specs.Good.{Each, InstrOk}
 use Rattle.record.specs.Write.{be, join, instr-bytes, block-bytes}
 use Rattle.record.specs.Decode.{items, behind, instr-from, placed-from, instr-end, body-from, block-end}
+use Rattle.record.specs.Again.{instrs-from, instrs-end, Passing, block-in, BlocksPass}
+use Rattle.record.specs.Sizes.{longest-instr, longest-lines, longest-block, longest-block-lines, places-end}
 use Rattle.record.proofs.Tests.{at-most-le}
 use Rattle.record.proofs.Decode.{length-items}
 use Rattle.record.proofs.Stands.{length-be}
+use Rattle.record.proofs.Again.{passing-all}
 use Rattle.numbering.specs.State.{State, start}
 use Rattle.numbering.specs.Number.{Numbered, instr-lvn, block-lvn, count-saves, saved-in}
 use Rattle.numbering.proofs.Codes.{instr-original, body-originals}
@@ -26,9 +29,8 @@ use Rattle.lvn_state.specs.declared.LvnState.{LvnState}
 use Rattle.lvn_state.proofs.Room.{room-of, start-room}
 use Rattle.lvn_blocks.specs.declared.Turn.{Turn}
 use Rattle.lvn_blocks.specs.declared.Places.{Places}
-use Rattle.lvn_blocks.specs.Block.{instrs-from, instrs-end, Passing, body-bytes, indexes, Asks, Done}
-use Rattle.lvn_blocks.specs.Blocks.{block-in, BlocksPass, BlocksAsk, block-as, BlockDone, numbered-in}
-use Rattle.lvn_blocks.proofs.Accepted.{passing-all}
+use Rattle.lvn_blocks.specs.Block.{body-bytes, indexes, Asks, Done, most-made}
+use Rattle.lvn_blocks.specs.Blocks.{BlocksAsk, block-as, BlockDone, numbered-in}
 
 -- ---- the instructions of a block, read again
 items-map :
@@ -130,10 +132,10 @@ body-asks {w} {N} {args} {s} {a} st count env homes hs ns hs′ c b h m l e =
       fit =
           record {
             names = b .names;
-            made = let x : a .k + 256 * 1 ≤ 32768 = b .made in omega arith;
+            made = let x : a .k + 256 * 1 ≤ most-made = b .made in omega arith;
             room = omega (arith, r, few, c);
-            reads = let x : a .p + 12000 * 1 < 4294960000 = b .reads in omega arith;
-            writes = let x : a .q + 24000 * 1 < 4294960000 = b .writes in omega arith;
+            reads = let x : a .p + longest-block * 1 < places-end = b .reads in omega arith;
+            writes = let x : a .q + longest-block-lines * 1 < places-end = b .writes in omega arith;
           };
       maps = m;
       tables =
@@ -206,7 +208,7 @@ module _
           noted = subst (λ (x : ℕ). Wrote made made′ x (r .st .made) (indexes (saved-in N (b .body)))) k₀ noted;
           temps = k;
           next = d .next ∙ ap (instrs-end w s (a .p + 4)) c ∙ end-again w s (a .p);
-          near = let x : r .p ≤ a .p + 4 + 43 * count = d .near in omega (arith, x, n);
-          close = let x : r .q ≤ a .q + 4 + 86 * count = d .close in omega (arith, x, n);
+          near = let x : r .p ≤ a .p + 4 + longest-instr * count = d .near in omega (arith, x, n);
+          close = let x : r .q ≤ a .q + 4 + longest-lines * count = d .close in omega (arith, x, n);
           few = head-fits .1 .1;
         }

@@ -10,6 +10,9 @@ use Rattle.record.specs.Good.{InstrOk}
 use Rattle.record.specs.View.{instr-of}
 use Rattle.record.specs.Write.{join}
 use Rattle.record.specs.Decode.{items, behind, instr-from, instr-end}
+use Rattle.record.specs.Again.{instrs-from, instrs-end, Passes, Passing}
+use Rattle.record.specs.Sizes.{longest-instr, longest-lines, places-end}
+use Rattle.record.proofs.Again.{instrs-more, end-more}
 use Rattle.numbering.specs.State.{State}
 use Rattle.numbering.specs.Number.{Emitted as EmittedAs, Numbered, prepend, instr-lvn, block-lvn, saved-in}
 use Rattle.numbering.proofs.Codes.{instr-original}
@@ -24,9 +27,9 @@ use Rattle.lvn_state.proofs.Room.{Grows, instr-grows, room-of, maps-kept}
 use Rattle.lvn_instr.specs.declared.Emitted.{Emitted}
 use Rattle.lvn_instr.specs.View.{emitted-of}
 use Rattle.lvn_blocks.specs.declared.Turn.{Turn}
-use Rattle.lvn_blocks.specs.Block.{instrs-from, instrs-end, Passes, Passing, body-bytes, saved-by, indexes, lines}
+use Rattle.lvn_blocks.specs.Block.{body-bytes, saved-by, indexes, lines, most-made}
 use Rattle.lvn_blocks.specs.Block.{Fit, Asks, Turned, body-of, temps-of, Done}
-use Rattle.lvn_blocks.proofs.Accepted.{reads-low, instrs-more, end-more}
+use Rattle.lvn_blocks.proofs.Accepted.{reads-low}
 use Rattle.lvn_blocks.proofs.Lines.{body-append, saved-append, emitted-noted}
 
 -- ---- one instruction
@@ -52,7 +55,7 @@ module _
         {made made′ out out′ : List ℕ} {q : ℕ} →
         made′ ≡ put made (t .st .made) (saved-by (saves-of (e .made) (instr-of (e .instr)))) →
         Wrote out out′ (t .q) q (body-bytes w (saves-of (e .made) (instr-of (e .instr)) ++ (instr-of (e .instr) ∷ []))) →
-        q ≤ t .q + 86 →
+        q ≤ t .q + longest-lines →
         Turned w N s ty t (record { st = e .state; p = g .next; q = q })
         (state-of env homes (t .st) hs ns) (state-of env′ homes′ (e .state) hs′ ns′) made made′ out out′
     turned {made} {made′} {out} {out′} {q} m o c =
@@ -110,8 +113,8 @@ pub record Going
       (indexes (saved-in N (body-of w N s ty st₀ (t₀ .p) n₀)))
   pub temps : temps-of w N s ty st (t .p) n ≡ temps-of w N s ty st₀ (t₀ .p) n₀
   pub next : instrs-end w s (t .p) n ≡ instrs-end w s (t₀ .p) n₀
-  pub near : t .p + 43 * n ≤ t₀ .p + 43 * n₀
-  pub close : t .q + 86 * n ≤ t₀ .q + 86 * n₀
+  pub near : t .p + longest-instr * n ≤ t₀ .p + longest-instr * n₀
+  pub close : t .q + longest-lines * n ≤ t₀ .q + longest-lines * n₀
 
 module _ {w N : ℕ} {s : List ℕ} {ty : NameIx → ℕ} {t₀ : Turn} {st₀ : State} {n₀ : ℕ} {made₀ out₀ : List ℕ} where
   pub going-all : Going w N s ty t₀ st₀ n₀ made₀ out₀ t₀ st₀ n₀ made₀ out₀
@@ -130,8 +133,8 @@ module _ {w N : ℕ} {s : List ℕ} {ty : NameIx → ℕ} {t₀ : Turn} {st₀ :
         noted = rest-none _ (ap (λ (is : List Instr). indexes (saved-in N is)) e) (g .noted);
         temps = sym k ∙ ap (temps-of w N s ty st (t .p)) (sym z) ∙ g .temps;
         next = ap (instrs-end w s (t .p)) (sym z) ∙ g .next;
-        near = let a : t .p + 43 * n ≤ t₀ .p + 43 * n₀ = g .near in omega arith;
-        close = let a : t .q + 86 * n ≤ t₀ .q + 86 * n₀ = g .close in omega arith;
+        near = let a : t .p + longest-instr * n ≤ t₀ .p + longest-instr * n₀ = g .near in omega arith;
+        close = let a : t .q + longest-lines * n ≤ t₀ .q + longest-lines * n₀ = g .close in omega arith;
       }
 
   pub going-less :
@@ -156,8 +159,8 @@ module _ {w N : ℕ} {s : List ℕ} {ty : NameIx → ℕ} {t₀ : Turn} {st₀ :
             (d .noted) (g .noted);
         temps = ap (λ (y : Numbered). y .temps) e ∙ sym (temps-more w N s ty st (t .p) n h) ∙ g .temps;
         next = ap (λ (p : ℕ). instrs-end w s p (n - 1)) (d .next) ∙ sym (end-more w s (t .p) n h) ∙ g .next;
-        near = let a : t .p + 43 * n ≤ t₀ .p + 43 * n₀ = g .near in let c : r .p ≤ t .p + 43 = d .near in omega arith;
-        close = let a : t .q + 86 * n ≤ t₀ .q + 86 * n₀ = g .close in let c : r .q ≤ t .q + 86 = d .close in omega arith;
+        near = let a : t .p + longest-instr * n ≤ t₀ .p + longest-instr * n₀ = g .near in let c : r .p ≤ t .p + longest-instr = d .near in omega arith;
+        close = let a : t .q + longest-lines * n ≤ t₀ .q + longest-lines * n₀ = g .close in let c : r .q ≤ t .q + longest-lines = d .close in omega arith;
       }
 
 -- ---- what the next instruction asks
@@ -171,10 +174,10 @@ fit-one : {N : ℕ} {s : State} {p q : ℕ} (n : ℕ) → 0 < n → Fit N s p q 
 fit-one {N} {s} {p} {q} n h f =
     record {
       names = f .names;
-      made = let a : s .temps + n ≤ 32768 = f .made in omega arith;
+      made = let a : s .temps + n ≤ most-made = f .made in omega arith;
       room = let a : room s + n ≤ 512 = f .room in omega arith;
-      reads = let a : p + 43 * n < 4294967000 = f .reads in omega arith;
-      writes = let a : q + 86 * n < 4294967000 = f .writes in omega arith;
+      reads = let a : p + longest-instr * n < places-end = f .reads in omega arith;
+      writes = let a : q + longest-lines * n < places-end = f .writes in omega arith;
     }
 
 module _
@@ -199,10 +202,10 @@ module _
         let c : instr-lvn N ty st i .state .temps ≤ suc (t .st .made) = grows .temps in
         record {
           names = f .names;
-          made = let x : t .st .made + n ≤ 32768 = f .made in omega (arith, k, c, x);
+          made = let x : t .st .made + n ≤ most-made = f .made in omega (arith, k, c, x);
           room = let x : room (state-of env homes (t .st) [] []) + n ≤ 512 = f .room in omega (arith, l, m, b, x);
-          reads = let x : t .p + 43 * n < 4294967000 = f .reads in let y : r .p ≤ t .p + 43 = d .near in omega arith;
-          writes = let x : t .q + 86 * n < 4294967000 = f .writes in let y : r .q ≤ t .q + 86 = d .close in omega arith;
+          reads = let x : t .p + longest-instr * n < places-end = f .reads in let y : r .p ≤ t .p + longest-instr = d .near in omega arith;
+          writes = let x : t .q + longest-lines * n < places-end = f .writes in let y : r .q ≤ t .q + longest-lines = d .close in omega arith;
         }
 
 module _

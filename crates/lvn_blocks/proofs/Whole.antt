@@ -1,52 +1,20 @@
 -- The blocks of an accepted record: what the code reads again is what was accepted, and what it then has is the rewriting's.
-use Prim.Native.Nat.{ℕ, zero, suc, _+_, _<_, _≤_}
-use mathlib.Core.Path.{_≡_, refl, sym, ap, _∙_, subst}
-use mathlib.Core.List.{List, _∷_, map}
+use Prim.Native.Nat.{ℕ, _+_, _<_, _≤_}
+use mathlib.Core.Path.{_≡_, sym, ap, _∙_, subst}
+use mathlib.Core.List.{List, map}
 use native.Mathlib.Omega.{arith}
 use lib.ListN.{length, getD, drop, length-map, List·getD-append, List·getD-map}
 use Rattle.record.specs.declared.NameIx.{NameIx}
-use Rattle.record.specs.Record.{nm, Instr, Placed, Block, Record, plain-block, plain, function, names-of, limits}
-use Rattle.record.specs.Reader.{got, num-at}
-use Rattle.record.specs.Read.{read}
+use Rattle.record.specs.Record.{nm, Instr, Block, Record, function, names-of}
 use Rattle.record.specs.Write.{join, block-bytes}
-use Rattle.record.specs.Decode.{items, block-from, block-end, names-end, id-width, record-from}
-use Rattle.record.proofs.Accepted.{read-ok}
-use Rattle.record.proofs.Decode.{read-decodes}
+use Rattle.record.specs.Again.{blocks-in}
 use Rattle.numbering.specs.Number.{blocks-lvn, made-from, lvn}
 use Rattle.numbering.specs.Made.{made}
 use Rattle.write_bytes.specs.Put.{Wrote}
 use Rattle.write_bytes.proofs.Put.{put-first}
 use Rattle.lvn_blocks.specs.declared.Places.{Places}
 use Rattle.lvn_blocks.specs.Block.{indexes}
-use Rattle.lvn_blocks.specs.Blocks.{block-in, blocks-in, BlocksPass, BlocksDone}
-
--- ---- the blocks that were accepted
-items-plain :
-    (w : ℕ) (s : List ℕ) (n p : ℕ) →
-    map plain-block (items (block-from w s) (block-end w s) p n) ≡ items (block-in w s) (block-end w s) p n
-unfolding items
-items-plain w s zero p = refl
-items-plain w s (suc n) p = ap (λ (bs : List (Block Instr)). block-in w s p ∷ bs) (items-plain w s n (block-end w s p))
-
--- B stands behind the names, the blocks behind B
-abbrev pub blocks-of : List ℕ → List (Block Instr)
-blocks-of s = blocks-in (id-width s) s (names-end s + 2) (num-at s (names-end s) 2)
-
-pub blocks-again : (s : List ℕ) → plain (record-from s) .blocks ≡ blocks-of s
-unfolding record-from blocks-in
-blocks-again s = items-plain (id-width s) s (num-at s (names-end s) 2) (names-end s + 2)
-
-module _ (s : List ℕ) (r : Record Placed) (p : ℕ) (e : read limits s 0 ≡ got r p) where
-  pub record-again : r ≡ record-from s
-  record-again = read-decodes limits s .told r p e .0
-
-  pub accepted-blocks : plain r .blocks ≡ blocks-of s
-  accepted-blocks = ap (λ (x : Record Placed). plain x .blocks) record-again ∙ blocks-again s
-
-  pub accepted-pass : BlocksPass (length (plain r .names)) (blocks-of s)
-  accepted-pass =
-      subst (BlocksPass (length (plain r .names))) accepted-blocks
-      (record { blocks = length (plain r .blocks); each = read-ok limits s r p e .blocks })
+use Rattle.lvn_blocks.specs.Blocks.{BlocksDone}
 
 -- ---- what the code has behind the last block
 module _

@@ -7,33 +7,16 @@ use Rattle.arith.specs.declared.One.the-variants.{Id}
 use Rattle.arith.specs.Code.{code1}
 use Rattle.record.specs.declared.NameIx.{NameIx}
 use Rattle.record.specs.Record.{no-lit, Instr, arg}
-use Rattle.record.specs.Good.{InstrOk}
 use Rattle.record.specs.Write.{join, instr-bytes}
-use Rattle.record.specs.Decode.{items, behind, instr-from, instr-end}
+use Rattle.record.specs.Decode.{instr-from, instr-end}
+use Rattle.record.specs.Again.{instrs-from, instrs-end, Passing}
+use Rattle.record.specs.Sizes.{longest-instr, longest-lines, places-end}
 use Rattle.numbering.specs.State.{State}
 use Rattle.numbering.specs.Number.{Emitted, instr-lvn, block-lvn, saved-in}
 use Rattle.write_bytes.specs.Put.{Wrote, IdWidth}
 use Rattle.lvn_state.specs.View.{state-of}
 use Rattle.lvn_state.specs.Room.{room, Maps}
 use Rattle.lvn_blocks.specs.declared.Turn.{Turn}
-
--- ---- reading again
--- n instructions from a place on, and the place behind them; w: the bytes of an id
-unfoldable pub instrs-from : ℕ → List ℕ → ℕ → ℕ → List Instr
-instrs-from w s p n = items (instr-from w s) (instr-end w s) p n
-
-unfoldable pub instrs-end : ℕ → List ℕ → ℕ → ℕ → ℕ
-instrs-end w s p n = behind (instr-end w s) p n
-
--- an instruction that passes its tests, in a record of N names and so many blocks; left: how many stand behind it
-pub record Passes (N : ℕ) (i : Instr) : Type 0 where
-  pub blocks : ℕ
-  pub left : ℕ
-  pub ok : InstrOk N blocks left i
-
-abbrev pub Passing : ℕ → List Instr → Type 0
-Passing N [] = Unit {0}
-Passing N (i ∷ is) = Passes N i × Passing N is
 
 -- ---- writing
 unfoldable pub body-bytes : ℕ → List Instr → List ℕ
@@ -54,13 +37,17 @@ indexes xs = map (λ x. x .0) xs
 abbrev pub lines : Emitted → List Instr
 lines e = e .saves ++ (e .instr ∷ [])
 
+-- K stays far below 65535, so that N + K is the number of a name
+abbrev pub most-made : ℕ
+most-made = 32768
+
 -- ---- what n more instructions ask, of a state, a place in the input and one in the output
 pub record Fit (N : ℕ) (s : State) (p q n : ℕ) : Type 0 where
   pub names : N ≤ 256
-  pub made : s .temps + n ≤ 32768
+  pub made : s .temps + n ≤ most-made
   pub room : room s + n ≤ 512
-  pub reads : p + 43 * n < 4294967000
-  pub writes : q + 86 * n < 4294967000
+  pub reads : p + longest-instr * n < places-end
+  pub writes : q + longest-lines * n < places-end
 
 -- the table of numbered values has room for every number
 pub record Tables (hs ns : List ℕ) : Type 0 where
@@ -85,8 +72,8 @@ pub record Turned
   pub written : Wrote out out′ (t .q) (r .q) (body-bytes w (lines (emitted-from w N s ty st (t .p))))
   pub noted : Wrote made made′ (t .st .made) (r .st .made) (indexes (saved-in N (lines (emitted-from w N s ty st (t .p)))))
   pub next : r .p ≡ instr-end w s (t .p)
-  pub near : r .p ≤ t .p + 43
-  pub close : r .q ≤ t .q + 86
+  pub near : r .p ≤ t .p + longest-instr
+  pub close : r .q ≤ t .q + longest-lines
 
 -- ---- n instructions done
 module _ (w N : ℕ) (s : List ℕ) (ty : NameIx → ℕ) where
@@ -102,5 +89,5 @@ pub record Done
   pub noted : Wrote made made′ (t .st .made) (r .st .made) (indexes (saved-in N (body-of w N s ty st (t .p) n)))
   pub temps : r .st .made ≡ temps-of w N s ty st (t .p) n
   pub next : r .p ≡ instrs-end w s (t .p) n
-  pub near : r .p ≤ t .p + 43 * n
-  pub close : r .q ≤ t .q + 86 * n
+  pub near : r .p ≤ t .p + longest-instr * n
+  pub close : r .q ≤ t .q + longest-lines * n

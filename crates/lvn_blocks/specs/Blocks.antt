@@ -3,39 +3,25 @@ use Prim.Native.Nat.{ℕ, _+_, _*_, _<_, _≤_}
 use mathlib.Core.List.{List, map}
 use mathlib.Core.Path.{_≡_}
 use Rattle.record.specs.declared.NameIx.{NameIx}
-use Rattle.record.specs.Record.{Instr, Block, Function, plain-block, names-of, limits}
-use Rattle.record.specs.Good.{Each, BlockOk}
+use Rattle.record.specs.Record.{Instr, Block, Function, names-of}
 use Rattle.record.specs.Write.{join, block-bytes}
-use Rattle.record.specs.Decode.{items, behind, block-from, block-end}
+use Rattle.record.specs.Decode.{block-end}
+use Rattle.record.specs.Again.{block-in, blocks-in, blocks-behind}
+use Rattle.record.specs.Sizes.{longest-block, longest-block-lines, places-end}
 use Rattle.numbering.specs.State.{start}
 use Rattle.numbering.specs.Number.{Numbered, block-lvn, blocks-lvn, count-saves, saved-in, made-from}
 use Rattle.write_bytes.specs.Put.{Wrote, IdWidth}
 use Rattle.lvn_blocks.specs.declared.Places.{Places}
-use Rattle.lvn_blocks.specs.Block.{indexes, Tables}
-
--- ---- reading again: the block at a place, n blocks from a place on, and the place behind them; w: the bytes of an id
-abbrev pub block-in : ℕ → List ℕ → ℕ → Block Instr
-block-in w s at = plain-block (block-from w s at)
-
-unfoldable pub blocks-in : ℕ → List ℕ → ℕ → ℕ → List (Block Instr)
-blocks-in w s at n = items (block-in w s) (block-end w s) at n
-
-unfoldable pub blocks-behind : ℕ → List ℕ → ℕ → ℕ → ℕ
-blocks-behind w s at n = behind (block-end w s) at n
-
--- they pass their tests, in a record of N names and so many blocks
-pub record BlocksPass (N : ℕ) (bs : List (Block Instr)) : Type 0 where
-  pub blocks : ℕ
-  pub each : Each (λ left b. BlockOk limits N blocks b) bs
+use Rattle.lvn_blocks.specs.Block.{indexes, Tables, most-made}
 
 -- ---- what n more blocks ask
 pub record BlocksAsk (w N args : ℕ) (a : Places) (n : ℕ) (hs ns : List ℕ) : Type 0 where
   pub width : IdWidth w
   pub names : N ≤ 256
   pub arguments : args ≤ 256
-  pub made : a .k + 256 * n ≤ 32768
-  pub reads : a .p + 12000 * n < 4294960000
-  pub writes : a .q + 24000 * n < 4294960000
+  pub made : a .k + 256 * n ≤ most-made
+  pub reads : a .p + longest-block * n < places-end
+  pub writes : a .q + longest-block-lines * n < places-end
   pub tables : Tables hs ns
 
 -- ---- a block as it is written
@@ -53,8 +39,8 @@ pub record BlockDone
   pub noted : Wrote made made′ (a .k) (r .k) (indexes (saved-in N (numbered-in w N args s ty a .body)))
   pub temps : r .k ≡ numbered-in w N args s ty a .temps
   pub next : r .p ≡ block-end w s (a .p)
-  pub near : r .p ≤ a .p + 12000
-  pub close : r .q ≤ a .q + 24000
+  pub near : r .p ≤ a .p + longest-block
+  pub close : r .q ≤ a .q + longest-block-lines
   pub few : r .k ≤ a .k + 256
 
 -- n blocks done, of a function f
@@ -62,5 +48,5 @@ pub record BlocksDone (w : ℕ) (f : Function) (s : List ℕ) (a r : Places) (n 
   pub written : Wrote out out′ (a .q) (r .q) (join (map (block-bytes w) (blocks-lvn f (a .k) (blocks-in w s (a .p) n))))
   pub noted : Wrote made made′ (a .k) (r .k) (indexes (made-from (names-of f) (blocks-lvn f (a .k) (blocks-in w s (a .p) n))))
   pub next : r .p ≡ blocks-behind w s (a .p) n
-  pub close : r .q ≤ a .q + 24000 * n
+  pub close : r .q ≤ a .q + longest-block-lines * n
   pub few : r .k ≤ a .k + 256 * n

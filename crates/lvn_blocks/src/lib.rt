@@ -8,11 +8,13 @@ ghost use Rattle.record.specs.Record.{Instr, Block, type-in};
 ghost use Rattle.record.specs.Write.{be};
 ghost use Rattle.record.specs.View.{instr-of};
 ghost use Rattle.record.specs.Decode.{instr-from};
+ghost use Rattle.record.specs.Again.{Passes, block-in, blocks-in, BlocksPass};
+ghost use Rattle.record.specs.Sizes.{longest-instr, longest-lines, places-end};
 ghost use Rattle.write_bytes.specs.Put.{put, Wrote, IdWidth};
 ghost use Rattle.lvn_state.specs.View.{state-of, saves-of};
 ghost use Rattle.lvn_state.specs.Room.{Maps};
-ghost use Rattle.lvn_blocks.specs.Block.{save-before, body-bytes, saved-by, Fit, Tables, Passes, Asks, Turned, Done};
-ghost use Rattle.lvn_blocks.specs.Blocks.{block-in, blocks-in, BlocksPass, BlocksAsk, BlockDone, BlocksDone};
+ghost use Rattle.lvn_blocks.specs.Block.{save-before, body-bytes, saved-by, Fit, Tables, Asks, Turned, Done};
+ghost use Rattle.lvn_blocks.specs.Blocks.{BlocksAsk, BlockDone, BlocksDone};
 ghost use Rattle.lvn_blocks.specs.Counted.{CountAsk, CountDone};
 use arith::One;
 use lvn_state::LvnState;
@@ -42,9 +44,9 @@ pub fn save_instr(i: Instruction, made: NameIx) -> Instruction
 
 // The save that is owed before i, where one is (made is not 65535); the place behind it.
 pub fn put_save(out: &mut [u8], at: usize, w: usize, i: Instruction, made: NameIx) -> usize
-    requires { ⌜ (at < 4294967296) × (IdWidth w × (i .id < 256 ^ w)) ⌝ }
+    requires { ⌜ (at < places-end) × (IdWidth w × (i .id < 256 ^ w)) ⌝ }
     ensures { λ r. ⌜
-        Wrote (now (out .entry)) (now (out .exit)) at r (body-bytes w (saves-of made (instr-of i))) × (r ≤ at + 43) ⌝ }
+        Wrote (now (out .entry)) (now (out .exit)) at r (body-bytes w (saves-of made (instr-of i))) × (r ≤ at + longest-instr) ⌝ }
 {
     if made.0 == 65535 {
         return at;
@@ -54,10 +56,10 @@ pub fn put_save(out: &mut [u8], at: usize, w: usize, i: Instruction, made: NameI
 
 // That save, and i; the place behind them.
 pub fn put_lines(out: &mut [u8], at: usize, w: usize, i: Instruction, made: NameIx) -> usize
-    requires { ⌜ (at < 4294967000) × (IdWidth w × ((i .id < 256 ^ w) × (i .count ≤ 8))) ⌝ }
+    requires { ⌜ (at + longest-instr < places-end) × (IdWidth w × ((i .id < 256 ^ w) × (i .count ≤ 8))) ⌝ }
     ensures { λ r. ⌜
         Wrote (now (out .entry)) (now (out .exit)) at r (body-bytes w (saves-of made (instr-of i) ++ (instr-of i ∷ []))) ×
-        (r ≤ at + 86) ⌝ }
+        (r ≤ at + longest-lines) ⌝ }
 {
     let p = put_save(out, at, w, i, made);
     read_instrs::put_instr(out, p, w, i)
@@ -156,7 +158,7 @@ pub fn body_lvn(
 
 // The head of a block: how many instructions it has, and how many of them are saves.
 pub fn put_head(out: &mut [u8], at: usize, n: u16, saves: u16)
-    requires { ⌜ at < 4294967296 ⌝ }
+    requires { ⌜ at < places-end ⌝ }
     ensures { λ _. ⌜ now (out .exit) ≡ put (now (out .entry)) at (be 2 n ++ be 2 saves) ⌝ }
 {
     write_bytes::put_u16(out, at, n);

@@ -9,6 +9,7 @@ use Rattle.record.specs.Reader.{num-at}
 use Rattle.record.specs.Good.{LitOk}
 use Rattle.record.specs.View.{instr-of}
 use Rattle.record.specs.Decode.{operands-from, operands-end, instr-from, instr-end}
+use Rattle.record.specs.Sizes.{longest-operands, longest-instr}
 use Rattle.codes.specs.Op.{op-of}
 use Rattle.read_instrs.specs.declared.Read.{Read}
 
@@ -26,7 +27,7 @@ pub record OperandsAgain (sh : Shape) (s : List ℕ) (at x code : ℕ) (r : Read
   pub instr : instr-of (r .instr) ≡ operands-from sh s at x code
   pub op : r .instr .op ≡ op-of code
   pub next : r .next ≡ operands-end sh s at
-  pub near : r .next ≤ at + 34
+  pub near : r .next ≤ at + longest-operands
   pub id : r .instr .id ≡ x
   pub count : r .instr .count ≤ 8
 
@@ -35,6 +36,6 @@ pub record ReadAgain (w : ℕ) (s : List ℕ) (at : ℕ) (r : Read) : Type 0 whe
   pub instr : instr-of (r .instr) ≡ instr-from w s at
   pub op : r .instr .op ≡ op-of (num-at s (at + w) 1)
   pub next : r .next ≡ instr-end w s at
-  pub near : r .next ≤ at + 43
+  pub near : r .next ≤ at + longest-instr
   pub id : r .instr .id < 256 ^ w
   pub count : r .instr .count ≤ 8

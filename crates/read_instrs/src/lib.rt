@@ -16,6 +16,7 @@ ghost use Rattle.record.specs.Write.{be, join, when, literal-bytes, argument-by
 ghost use Rattle.record.specs.Answer.{literal-of};
 ghost use Rattle.record.specs.View.{code-of, instr-of};
 ghost use Rattle.record.specs.Decode.{two-on, number-from, items, operands-from, instr-from};
+ghost use Rattle.record.specs.Sizes.{longest-operands, longest-instr, places-end};
 ghost use Rattle.write_bytes.specs.Put.{Wrote, IdWidth};
 ghost use Rattle.read_instrs.specs.Again.{lit-from, Readable, OperandsAgain, ReadAgain};
 
@@ -88,7 +89,7 @@ fn put_blocks(out: &mut [u8], at: usize, n: u8, blocks: [u16; 2]) -> usize
 // What stands behind the code.
 fn put_operands(out: &mut [u8], at: usize, sh: Shape, i: Instruction) -> usize
     requires { ⌜ (at < 8589930000) × ((i .count ≤ 8) × (sh ≡ shape-of (code-of (i .op)))) ⌝ }
-    ensures { λ r. ⌜ Wrote (now (out .entry)) (now (out .exit)) at r (operand-bytes sh (instr-of i)) × (r ≤ at + 34) ⌝ }
+    ensures { λ r. ⌜ Wrote (now (out .entry)) (now (out .exit)) at r (operand-bytes sh (instr-of i)) × (r ≤ at + longest-operands) ⌝ }
 {
     let literal = i.literal;
     let args = i.args;
@@ -102,8 +103,8 @@ fn put_operands(out: &mut [u8], at: usize, sh: Shape, i: Instruction) -> usize
 
 // An instruction; w: the bytes of an id.
 pub fn put_instr(out: &mut [u8], at: usize, w: usize, i: Instruction) -> usize
-    requires { ⌜ (at < 4294967296) × (IdWidth w × ((i .id < 256 ^ w) × (i .count ≤ 8))) ⌝ }
-    ensures { λ r. ⌜ Wrote (now (out .entry)) (now (out .exit)) at r (instr-bytes w (instr-of i)) × (r ≤ at + 43) ⌝ }
+    requires { ⌜ (at < places-end) × (IdWidth w × ((i .id < 256 ^ w) × (i .count ≤ 8))) ⌝ }
+    ensures { λ r. ⌜ Wrote (now (out .entry)) (now (out .exit)) at r (instr-bytes w (instr-of i)) × (r ≤ at + longest-instr) ⌝ }
 {
     let op = i.op;
     let code = codes::code_of(op);
@@ -224,7 +225,7 @@ fn operands_at(s: &[u8], at: usize, sh: Shape, id: u64, code: u8) -> Read
 
 // The instruction at a place; w: the bytes of an id.
 pub fn instr_at(s: &[u8], at: usize, w: usize) -> Read
-    requires { ⌜ (at < 4294967296) × (IdWidth w × Readable (instr-from w (now s) at)) ⌝ }
+    requires { ⌜ (at < places-end) × (IdWidth w × Readable (instr-from w (now s) at)) ⌝ }
     ensures { λ r. ⌜ ReadAgain w (now (s .entry)) at r ⌝ }
 {
     let id = word_at(s, at, w);

@@ -197,7 +197,7 @@ contents-decode lim s =
     (times-decode _ s (block-from w s) (block-end w s) (λ left at. block-decodes lim w (names-count s) b s at) b (e + 2))
     give-decodes)))))
 
-length-decodes : (s : List ℕ) → Decodes length-field s 0 (num-at s 0 4) 4
+pub length-decodes : (s : List ℕ) → Decodes length-field s 0 (num-at s 0 4) 4
 unfolding length-field
 length-decodes s = record { told = field-decodes 4 (length-test (length s - 4)) s 0 .told }
 

@@ -13,3 +13,6 @@ pub mod Sizes
 pub mod Longest
 pub mod Following
 pub mod Decode
+pub mod Inside
+pub mod ReadSize
+pub mod Again

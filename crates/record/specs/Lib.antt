@@ -23,3 +23,5 @@ pub mod Forms
 pub mod View
 pub mod Ranged
 pub mod Decode
+pub mod Sizes
+pub mod Again

@@ -18,8 +18,11 @@ use Rattle.record.specs.Typing.{accept}
 use Rattle.record.specs.Write.{bytes}
 use Rattle.record.specs.Answer.{checked-as, checked}
 use Rattle.record.specs.Decode.{items, behind, name-from, name-end, names-count, names-end, record-from}
+use Rattle.record.specs.Again.{record-in, Reads, types-in}
 use Rattle.record.proofs.Decode.{length-items}
 use Rattle.record.proofs.Typed.{accept-typed}
+use Rattle.record.proofs.Again.{record-again, few-names, record-ok}
+use Rattle.record.proofs.ReadSize.{read-size}
 use Rattle.numbering.specs.declared.Rewritten.the-variants.{Written, Refused, Room}
 use Rattle.numbering.specs.Made.{made}
 use Rattle.numbering.specs.Rewrite.{rewritten-bytes, rewrite-result, rewrite-output, rewrite, rewrite-leaves}
@@ -29,10 +32,7 @@ use Rattle.write_bytes.proofs.Put.{put-first}
 use Rattle.check_types.specs.Passes.{types-from}
 use Rattle.write_names.specs.Named.{places-from, NamesAt}
 use Rattle.write_names.proofs.Laws.{places-hold}
-use Rattle.lvn_blocks.proofs.Whole.{record-again}
-use Rattle.rewrite.specs.Parts.{record-in, rewriting-in, Reads, types-in}
-use Rattle.rewrite.proofs.ReadSize.{read-size}
-use Rattle.rewrite.proofs.Known.{few-names, record-ok}
+use Rattle.rewrite.specs.Parts.{rewriting-in}
 
 -- ---- the table of types, its first n entries
 pub types-first :

@@ -6,16 +6,14 @@ use native.Mathlib.Omega.{arith}
 use lib.ListN.{length, getD, take, drop, length-map, length-drop, List·getD-map}
 use lib.Seq.{length-take-le, getD-take, take-append-seam}
 use Rattle.record.specs.declared.NameIx.{NameIx}
-use Rattle.record.specs.Record.{nm, Instr, Placed, Block, Name, Record, Function, plain-block, plain, function, limits, id-bytes}
-use Rattle.record.specs.Reader.{got, num-at}
-use Rattle.record.specs.Read.{read}
-use Rattle.record.specs.Good.{RecordOk}
+use Rattle.record.specs.Record.{nm, Instr, Placed, Block, Name, Record, Function, plain, function, id-bytes}
+use Rattle.record.specs.Reader.{num-at}
 use Rattle.record.specs.Write.{be, join, name-bytes, block-bytes}
-use Rattle.record.specs.Decode.{name-from, name-end, block-from, block-end, names-count, names-end, record-from}
-use Rattle.record.proofs.Tests.{at-most-le, names-limit, names-args}
-use Rattle.record.proofs.Accepted.{read-ok}
-use Rattle.record.proofs.Decode.{length-items}
+use Rattle.record.specs.Decode.{names-count, names-end}
+use Rattle.record.specs.Again.{blocks-in, BlocksPass, record-in, Reads, types-in}
+use Rattle.record.specs.Sizes.{longest-names}
 use Rattle.record.proofs.Sizes.{total, total-append}
+use Rattle.record.proofs.Again.{record-again, accepted-blocks, accepted-pass, blocks-again, version-in, args-in, names-in, blocks-number, record-ok, few-original, few-blocks, few-args, names-on, names-lie}
 use Rattle.numbering.specs.Number.{lvn}
 use Rattle.numbering.specs.Made.{made-names, made, rewriting}
 use Rattle.numbering.proofs.Made.{temps-behind}
@@ -24,69 +22,15 @@ use Rattle.write_bytes.specs.Put.{put, Wrote, IdWidth}
 use Rattle.write_bytes.proofs.Put.{put-first, length-put}
 use Rattle.write_bytes.proofs.Numbers.{id-width}
 use Rattle.write_names.specs.Named.{Named, Short}
-use Rattle.write_names.proofs.Copied.{behind-on, names-copied, names-short}
+use Rattle.write_names.proofs.Copied.{names-copied, names-short}
 use Rattle.lvn_blocks.specs.declared.Places.{Places}
 use Rattle.lvn_blocks.specs.Block.{indexes}
-use Rattle.lvn_blocks.specs.Blocks.{blocks-in, BlocksPass, BlocksAsk, BlocksDone}
-use Rattle.lvn_blocks.proofs.Whole.{record-again, accepted-blocks, accepted-pass, blocks-again, blocks-written, made-noted, made-many}
-use Rattle.rewrite.specs.Parts.{record-in, rewriting-in, front-parts, blocks-bytes, Reads, types-in, Noted}
-use Rattle.rewrite.proofs.Inside.{names-inside}
+use Rattle.lvn_blocks.specs.Blocks.{BlocksAsk, BlocksDone}
+use Rattle.lvn_blocks.proofs.Whole.{blocks-written, made-noted, made-many}
+use Rattle.rewrite.specs.Parts.{rewriting-in, front-parts, blocks-bytes, Noted, longest-front}
 use Rattle.rewrite.proofs.Parts.{front-total, front-written}
 
--- ---- its fields, by their places
-pub version-in : (s : List ℕ) → record-in s .version ≡ num-at s 4 1
-unfolding record-from
-version-in s = refl
-
-pub args-in : (s : List ℕ) → record-in s .args ≡ num-at s 5 1
-unfolding record-from
-args-in s = refl
-
-pub names-in : (s : List ℕ) → length (record-in s .names) ≡ names-count s
-unfolding record-from
-names-in s = length-items (name-from s) (name-end s) (names-count s) 8
-
-pub blocks-number : (s : List ℕ) → length (record-in s .blocks) ≡ num-at s (names-end s) 2
-unfolding record-from
-blocks-number s =
-    let w = id-bytes (num-at s 4 1) in
-    length-map (record-from s .blocks) plain-block ∙
-    length-items (block-from w s) (block-end w s) (num-at s (names-end s) 2) (names-end s + 2)
-
-module _ (s : List ℕ) (r : Record Placed) (p : ℕ) (e : read limits s 0 ≡ got r p) where
-  pub read-good : RecordOk limits (record-in s)
-  read-good = subst (λ (r : Record Placed). RecordOk limits (plain r)) (record-again s r p e) (read-ok limits s r p e)
-
-  pub few-names : names-count s ≤ 256
-  few-names =
-      let n : length (record-in s .names) ≤ 256 = names-limit 256 (record-in s .args) (length (record-in s .names)) (read-good .size) in
-      omega (arith, n, names-in s)
-
 module _ {s : List ℕ} {end : ℕ} (h : Reads s end) where
-  pub record-ok : RecordOk limits (record-in s)
-  record-ok = read-good s (h .it) (h .behind) (h .reads)
-
-  pub few-original : names-count s ≤ 256
-  few-original = few-names s (h .it) (h .behind) (h .reads)
-
-  pub few-blocks : num-at s end 2 ≤ 64
-  few-blocks =
-      let n : length (record-in s .blocks) ≤ 64 = at-most-le 64 (length (record-in s .blocks)) (record-ok .count) in
-      rw (h .names) (omega (arith, n, blocks-number s))
-
-  pub few-args : num-at s 5 1 ≤ 256
-  few-args =
-      let n : record-in s .args ≤ length (record-in s .names) =
-      names-args 256 (record-in s .args) (length (record-in s .names)) (record-ok .size) in
-      omega (arith, n, args-in s, names-in s, few-original)
-
-  pub names-on : 8 ≤ end
-  unfolding names-end
-  names-on = rw (h .names) (behind-on s (names-count s) 8)
-
-  pub names-lie : names-end s ≤ length s
-  names-lie = omega (arith, names-inside limits s (h .it) (h .behind) (h .reads))
-
   -- a block has at most 256 saves
   made-each : length (made (record-in s)) ≤ 256 * num-at s end 2
   made-each =
@@ -128,12 +72,12 @@ module _ {s : List ℕ} {end : ℕ} (h : Reads s end) where
 
   pub blocks-ask :
       {types hs ns : List ℕ} (w args at count : ℕ) →
-      types ≡ types-in s → w ≡ id-bytes (num-at s 4 1) → args ≡ num-at s 5 1 → count ≡ num-at s end 2 → at ≤ 4000000 →
+      types ≡ types-in s → w ≡ id-bytes (num-at s 4 1) → args ≡ num-at s 5 1 → count ≡ num-at s end 2 → at ≤ longest-front →
       512 ≤ length hs → 512 ≤ length ns →
       BlocksAsk w (length types) args (record { p = end + 2; q = at; k = 0 }) count hs ns
   blocks-ask w args at count t e a f b i j =
       let n : count ≤ 64 = omega (arith, f, few-blocks) in
-      let m : end ≤ 70000 = h .near in
+      let m : end ≤ longest-names = h .near in
       record {
         width = subst IdWidth (sym e) (id-width (num-at s 4 1));
         names = omega (arith, types-many t, few-original);

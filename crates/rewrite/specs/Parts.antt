@@ -3,19 +3,16 @@ use Prim.Native.Nat.{ℕ, _*_, _≤_}
 use mathlib.Core.List.{List, [], _∷_, map}
 use mathlib.Core.Path.{_≡_}
 use lib.ListN.{length, take}
-use Rattle.record.specs.Record.{Instr, Placed, Record, function, plain, limits, id-bytes}
-use Rattle.record.specs.Reader.{got, num-at}
-use Rattle.record.specs.Read.{read}
+use Rattle.record.specs.Record.{Instr, Record, id-bytes}
+use Rattle.record.specs.Reader.{num-at}
 use Rattle.record.specs.Write.{be, join, name-bytes, block-bytes}
-use Rattle.record.specs.Decode.{names-count, names-end, record-from}
+use Rattle.record.specs.Decode.{names-count}
+use Rattle.record.specs.Again.{record-in, types-in, Reads}
 use Rattle.numbering.specs.Made.{made, rewriting}
 use Rattle.write_names.specs.Named.{NamesAt}
 use Rattle.lvn_blocks.specs.Block.{indexes}
 
--- the record that stands in these bytes, and its rewriting
-abbrev pub record-in : List ℕ → Record Instr
-record-in s = plain (record-from s)
-
+-- the rewriting of the record that stands in these bytes
 abbrev pub rewriting-in : List ℕ → Record Instr
 rewriting-in s = rewriting (record-in s)
 
@@ -27,17 +24,15 @@ front-parts r =
 abbrev pub blocks-bytes : Record Instr → List ℕ
 blocks-bytes r = join (map (block-bytes (id-bytes (r .version))) (r .blocks))
 
--- s is read without a fault, and its names end there
-pub record Reads (s : List ℕ) (end : ℕ) : Type 0 where
-  pub it : Record Placed
-  pub behind : ℕ
-  pub reads : read limits s 0 ≡ got it behind
-  pub names : end ≡ names-end s
-  pub near : end ≤ 70000
+-- how long its parts can be: what stands before the blocks, the blocks, and all
+abbrev pub longest-front : ℕ
+longest-front = 5000000
 
--- the types of its names
-abbrev pub types-in : List ℕ → List ℕ
-types-in s = function (record-in s) .types
+abbrev pub longest-blocks : ℕ
+longest-blocks = 2000000
+
+abbrev pub longest-rewriting : ℕ
+longest-rewriting = 7000000
 
 -- what is known of s and its names while it is rewritten
 pub record Typed (s ts ps : List ℕ) (end : ℕ) : Type 0 where

@@ -13,11 +13,12 @@ ghost use Rattle.record.specs.Write.{be, join, bytes};
 ghost use Rattle.record.specs.Answer.{checked};
 ghost use Rattle.record.specs.Decode.{names-count, record-from};
 ghost use Rattle.record.specs.declared.Checked.the-variants.{Accepted};
+ghost use Rattle.record.specs.Again.{record-in, Reads};
 ghost use Rattle.numbering.specs.Made.{made};
 ghost use Rattle.numbering.specs.Rewrite.{rewrite-result, rewrite-output, rewrite, rewrite-leaves};
 ghost use Rattle.write_names.specs.Named.{NamesAt};
 ghost use Rattle.write_bytes.specs.Put.{put, Wrote};
-ghost use Rattle.rewrite.specs.Parts.{record-in, rewriting-in, front-parts, blocks-bytes, Reads, Lent, Typed, Noted};
+ghost use Rattle.rewrite.specs.Parts.{rewriting-in, front-parts, blocks-bytes, Lent, Typed, Noted, longest-front, longest-blocks, longest-rewriting};
 
 // The blocks of the rewriting, from a place on; the place behind them, and K. end: where the input's names end; names: what each K saved.
 pub fn put_blocks(
@@ -30,10 +31,10 @@ pub fn put_blocks(
     end: usize,
     at: usize,
 ) -> Places
-    requires { ⌜ Lent (now s) (now types) (now heads) (now nums) (now names) end × (at ≤ 4000000) ⌝ }
+    requires { ⌜ Lent (now s) (now types) (now heads) (now nums) (now names) end × (at ≤ longest-front) ⌝ }
     ensures { λ r. ⌜
         Wrote (now (out .entry)) (now (out .exit)) at (r .q) (blocks-bytes (rewriting-in (now (s .entry)))) ×
-        (Noted (now (s .entry)) (now (names .exit)) (r .k) × (r .q ≤ at + 2000000)) ⌝ }
+        (Noted (now (s .entry)) (now (names .exit)) (r .k) × (r .q ≤ at + longest-blocks)) ⌝ }
 {
     let w = check_record::id_bytes(read_fields::byte_or(s, 4));
     let args = read_fields::byte_or(s, 5) as u16;
@@ -60,7 +61,7 @@ pub fn put_front(
         Reads (now s) end × (Noted (now s) (now names) k × NamesAt (now s) (now places) (names-count (now s))) ⌝ }
     ensures { λ r. ⌜
         Wrote (now (out .entry)) (now (out .exit)) 0 r (join (be 4 rest ∷ front-parts (rewriting-in (now (s .entry))))) ×
-        ((r ≤ 4000000) × (end + 2 ≤ r)) ⌝ }
+        ((r ≤ longest-front) × (end + 2 ≤ r)) ⌝ }
 {
     let version = read_fields::byte_or(s, 4) as u8;
     let args = read_fields::byte_or(s, 5) as u8;
@@ -79,7 +80,7 @@ pub fn front_size(s: &[u8], places: &[u32], names: &[u16], end: usize, k: u16) -
     requires { ⌜
         Reads (now s) end × (Noted (now s) (now names) k × NamesAt (now s) (now places) (names-count (now s))) ⌝ }
     ensures { λ r. ⌜
-        (r ≡ length (join (be 4 0 ∷ front-parts (rewriting-in (now (s .entry)))))) × ((r ≤ 5000000) × (end + 2 ≤ r)) ⌝ }
+        (r ≡ length (join (be 4 0 ∷ front-parts (rewriting-in (now (s .entry)))))) × ((r ≤ longest-front) × (end + 2 ≤ r)) ⌝ }
 {
     end + 2 + write_names::made_size(s, places, names, k as usize)
 }
@@ -104,7 +105,7 @@ pub fn measure(
         Lent (now s) (now types) (now heads) (now nums) (now names) end × NamesAt (now s) (now places) (names-count (now s)) ⌝ }
     ensures { λ r. ⌜
         (r .bytes ≡ length (bytes (rewriting-in (now (s .entry))))) ×
-        (Noted (now (s .entry)) (now (names .exit)) (r .saves) × (r .bytes ≤ 7000000)) ⌝ }
+        (Noted (now (s .entry)) (now (names .exit)) (r .saves) × (r .bytes ≤ longest-rewriting)) ⌝ }
 {
     let mut none = [0u8; 0];
     let a = put_blocks(s, types, heads, nums, names, &mut none, end, 0);
@@ -130,7 +131,7 @@ pub fn put_record(
     requires { ⌜
         Lent (now s) (now types) (now heads) (now nums) (now names) end ×
         (NamesAt (now s) (now places) (names-count (now s)) × (Noted (now s) (now names) (size .saves) ×
-        ((size .bytes ≡ length (bytes (rewriting-in (now s)))) × (size .bytes ≤ 7000000)))) ⌝ }
+        ((size .bytes ≡ length (bytes (rewriting-in (now s)))) × (size .bytes ≤ longest-rewriting)))) ⌝ }
     ensures { λ _. ⌜ now (out .exit) ≡ put (now (out .entry)) 0 (bytes (rewriting-in (now (s .entry)))) ⌝ }
 {
     let at = put_front(

@@ -15,13 +15,9 @@ use Rattle.record.specs.Good.{NamesOk}
 use Rattle.record.specs.Write.{be, join, name-bytes}
 use Rattle.record.specs.Decode.{items, behind, name-from, name-end, names-count, names-end, record-from}
 use Rattle.record.proofs.Tests.{and-right, need-passes}
+use Rattle.record.proofs.Again.{behind-on}
 use Rattle.write_names.specs.Named.{Short}
 use Rattle.write_bytes.proofs.Parts.{part-less}
-
-pub behind-on : (s : List ℕ) (n at : ℕ) → at ≤ behind (name-end s) at n
-unfolding behind name-end
-behind-on s zero at = omega arith
-behind-on s (suc n) at = let h : name-end s at ≤ behind (name-end s) (name-end s at) n = behind-on s n (name-end s at) in omega arith
 
 -- n: the length of its text
 name-stands :

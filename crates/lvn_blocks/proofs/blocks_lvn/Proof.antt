@@ -6,7 +6,8 @@ use native.Mathlib.Omega.{arith}
 use lib.ListN.{length}
 use borrow.Author.Needs.{needs}
 use Rattle.record.specs.Record.{Instr, Block}
-use Rattle.lvn_blocks.specs.Blocks.{blocks-in, BlocksPass, BlocksAsk}
+use Rattle.record.specs.Again.{blocks-in, BlocksPass}
+use Rattle.lvn_blocks.specs.Blocks.{BlocksAsk}
 use Rattle.lvn_blocks.specs.Counted.{places}
 use Rattle.lvn_blocks.proofs.Blocks.{Going, going-all, going-none, going-less, ask-less, pass-rest}
 use Rattle.lvn_blocks.proofs.Counted.{count-asks, alike-less, done-alike}

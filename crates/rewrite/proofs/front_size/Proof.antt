@@ -1,6 +1,7 @@
 use borrow.Author.Needs.{needs}
 use native.Mathlib.Omega.{arith}
-use Rattle.rewrite.proofs.Known.{names-lie, few-made, made-named, front-measured}
+use Rattle.record.proofs.Again.{names-lie}
+use Rattle.rewrite.proofs.Known.{few-made, made-named, front-measured}
 use Rattle.rewrite.proofs.front_size.Statement.{statement}
 use Rattle.rewrite.proofs.front_size.Tie as tie
 

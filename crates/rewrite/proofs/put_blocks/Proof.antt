@@ -1,9 +1,10 @@
 use borrow.Author.Needs.{needs}
-use mathlib.Core.List.{[]}
 use mathlib.Core.Path.{ap, _∙_}
+use mathlib.Core.List.{[]}
 use native.Mathlib.Omega.{arith}
 use Rattle.record.specs.Record.{id-bytes}
-use Rattle.rewrite.proofs.Known.{few-blocks, blocks-pass, blocks-ask, blocks-put, blocks-noted}
+use Rattle.record.proofs.Again.{few-blocks}
+use Rattle.rewrite.proofs.Known.{blocks-pass, blocks-ask, blocks-put, blocks-noted}
 use Rattle.rewrite.proofs.put_blocks.Statement.{statement}
 use Rattle.rewrite.proofs.put_blocks.Tie as tie
 

@@ -1,6 +1,7 @@
 use borrow.Author.Needs.{needs}
 use native.Mathlib.Omega.{arith}
-use Rattle.rewrite.proofs.Known.{few-original, names-on, names-before, few-made, made-named, made-short, front-put}
+use Rattle.record.proofs.Again.{few-original, names-on}
+use Rattle.rewrite.proofs.Known.{names-before, few-made, made-named, made-short, front-put}
 use Rattle.rewrite.proofs.put_front.Statement.{statement}
 use Rattle.rewrite.proofs.put_front.Tie as tie
 

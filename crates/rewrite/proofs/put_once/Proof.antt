@@ -2,9 +2,9 @@ use borrow.Author.Needs.{needs}
 use Prim.Native.Nat.{_+_, _-_}
 use mathlib.Core.Path.{refl}
 use native.Mathlib.Omega.{arith}
+use Rattle.record.proofs.Again.{names-on}
 use Rattle.rewrite.specs.Parts.{rewriting-in}
 use Rattle.rewrite.proofs.Parts.{parts-size, parts-moved}
-use Rattle.rewrite.proofs.Known.{names-on}
 use Rattle.rewrite.proofs.put_once.Statement.{statement}
 use Rattle.rewrite.proofs.put_once.Tie as tie
 

@@ -1,6 +1,6 @@
 use borrow.Author.Needs.{needs}
 use native.Mathlib.Omega.{arith}
-use Rattle.rewrite.proofs.Known.{few-blocks}
+use Rattle.record.proofs.Again.{few-blocks}
 use Rattle.rewrite.proofs.rewrite_typed.Statement.{statement}
 use Rattle.rewrite.proofs.rewrite_typed.Tie as tie
 

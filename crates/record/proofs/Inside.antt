@@ -8,15 +8,15 @@ use lib.ListN.{length}
 use lib.Dec.{ltb}
 use borrow.Author.Tests.{ltb-false}
 use Rattle.arith.proofs.Clash.{clash}
 use Rattle.record.specs.declared.Limits.{Limits}
 use Rattle.record.specs.declared.Refusal.the-variants.{Length}
 use Rattle.record.specs.declared.Test.{Test}
 use Rattle.record.specs.Record.{Placed, Record, most-args, most-blocks}
 use Rattle.record.specs.Reader.{Res, got, fault, Reader, then, refuse, judge, _>>=_, num-at, field}
-use Rattle.record.specs.Tests.{at-most, length-test, version-test, names-test}
-use Rattle.record.specs.Read.{names, length-field, contents, read}
+use Rattle.record.specs.Tests.{at-most, version-test, names-test}
+use Rattle.record.specs.Read.{names, contents, read}
 use Rattle.record.specs.Decode.{names-count, names-end}
-use Rattle.record.proofs.Decode.{Decodes, field-decodes, names-decode}
+use Rattle.record.proofs.Decode.{Decodes, field-decodes, names-decode, length-decodes}
 
 -- if the reader passes, s has at least k bytes
 record Reaches {A : Type 0} (r : Reader A) (s : List ℕ) (at k : ℕ) : Type 0 where
@@ -59,10 +59,6 @@ contents-reach lim s =
     (then-reaches _ (field-decodes 2 (names-test (lim .names) (num-at s 5 1)) s 6)
     (then-reaches _ (names-decode lim [] s (names-count s) 8)
     (first-reaches _ (field-reaches 2 (at-most most-blocks) s (names-end s) (omega arith))))))
-
-length-decodes : (s : List ℕ) → Decodes length-field s 0 (num-at s 0 4) 4
-unfolding length-field
-length-decodes s = record { told = field-decodes 4 (length-test (length s - 4)) s 0 .told }
 
 pub names-inside : (lim : Limits) (s : List ℕ) (r : Record Placed) (p : ℕ) → read lim s 0 ≡ got r p → names-end s + 2 ≤ length s
 unfolding read
