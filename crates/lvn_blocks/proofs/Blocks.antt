@@ -14,7 +14,7 @@ use Rattle.record.proofs.Again.{one-more}
 use Rattle.numbering.specs.Number.{Numbered, blocks-lvn, saved-in, made-from}
 use Rattle.write_bytes.proofs.Wrote.{Rest, rest-all, rest-less, rest-none}
 use Rattle.lvn_blocks.specs.declared.Places.{Places}
-use Rattle.lvn_blocks.specs.Block.{indexes, most-made}
+use Rattle.lvn_blocks.specs.Block.{indexes}
 use Rattle.lvn_blocks.specs.Blocks.{BlocksAsk, block-as, BlockDone, numbered-in, BlocksDone}
 
 -- ---- blocks in a row
@@ -123,10 +123,11 @@ module _ {w N args : ℕ} {a : Places} (n : ℕ) {hs ns : List ℕ} (h : 0 < n) 
         width = b .width;
         names = b .names;
         arguments = b .arguments;
-        made = let x : a .k + 256 * n ≤ most-made = b .made in omega arith;
+        made = let x : N + a .k + 256 * n < 65535 = b .made in omega arith;
         reads = let x : a .p + longest-block * n < places-end = b .reads in omega arith;
         writes = let x : a .q + longest-block-lines * n < places-end = b .writes in omega arith;
-        tables = b .tables;
+        heads = b .heads;
+        nums = b .nums;
       }
 
   pub ask-less :
@@ -140,13 +141,11 @@ module _ {w N args : ℕ} {a : Places} (n : ℕ) {hs ns : List ℕ} (h : 0 < n) 
         width = b .width;
         names = b .names;
         arguments = b .arguments;
-        made = let x : a .k + 256 * n ≤ most-made = b .made in let y : r .k ≤ a .k + 256 = d .few in omega arith;
+        made = let x : N + a .k + 256 * n < 65535 = b .made in let y : r .k ≤ a .k + 256 = d .few in omega arith;
         reads = let x : a .p + longest-block * n < places-end = b .reads in let y : r .p ≤ a .p + longest-block = d .near in omega arith;
         writes = let x : a .q + longest-block-lines * n < places-end = b .writes in let y : r .q ≤ a .q + longest-block-lines = d .close in omega arith;
-        tables =
-            let x : 512 ≤ length hs = b .tables .heads in
-            let y : 512 ≤ length ns = b .tables .nums in
-            record { heads = omega arith; nums = omega arith };
+        heads = let x : 512 ≤ length hs = b .heads in omega arith;
+        nums = let x : 512 ≤ length ns = b .nums in omega arith;
       }
 
 module _ {N : ℕ} (w : ℕ) (s : List ℕ) (p n : ℕ) (h : 0 < n) (a : BlocksPass N (blocks-in w s p n)) where

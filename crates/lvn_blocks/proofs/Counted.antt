@@ -14,7 +14,6 @@ use Rattle.lvn_blocks.specs.declared.Spot.{Spot}
 use Rattle.lvn_blocks.specs.declared.SaveCount.{SaveCount}
 use Rattle.lvn_blocks.specs.Blocks.{BlocksAsk, BlockDone, numbered-in, BlocksDone}
 use Rattle.lvn_blocks.specs.Counted.{places, CountAsk, CountDone}
-use Rattle.lvn_blocks.specs.Block.{most-made}
 use Rattle.lvn_blocks.proofs.Blocks.{ask-one, pass-first}
 
 module _ {w N args : ℕ} {s : List ℕ} {ty : NameIx → ℕ} {made made′ out out′ : List ℕ} where
@@ -35,7 +34,8 @@ module _ {w N args : ℕ} {s : List ℕ} {ty : NameIx → ℕ} {made made′ out
   total-fits at c r b d =
       let g = grown (places at c) r d in
       let f : r .k ≤ c .k + 256 = d .few in
-      (omega (arith, g), omega (arith, f, b .total))
+      let m : N + c .k + 256 * 1 < 65535 = b .ask .made in
+      (omega (arith, g), omega (arith, f, m, b .total))
 
   pub counted :
       (at : Spot) (c : SaveCount) (r : Places) →
@@ -67,7 +67,7 @@ count-asks {w} {s = s} k at c n h b p e =
     record {
       ask = ask-one n h b;
       pass = pass-first w s (at .p) n h p;
-      total = let x : c .k + 256 * n ≤ most-made = b .made in omega arith;
+      total = omega arith;
     }
 
 -- K behind all blocks, as the total says it

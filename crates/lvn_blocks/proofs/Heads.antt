@@ -24,12 +24,12 @@ use Rattle.numbering.proofs.Passes.{saves-count, block-few}
 use Rattle.write_bytes.specs.Put.{put, Wrote}
 use Rattle.write_bytes.proofs.Wrote.{wrote-before, wrote-last}
 use Rattle.lvn_state.specs.View.{state-of}
-use Rattle.lvn_state.specs.Room.{room, Maps}
+use Rattle.lvn_state.specs.Room.{room}
 use Rattle.lvn_state.specs.declared.LvnState.{LvnState}
 use Rattle.lvn_state.proofs.Room.{room-of, start-room}
 use Rattle.lvn_blocks.specs.declared.Turn.{Turn}
 use Rattle.lvn_blocks.specs.declared.Places.{Places}
-use Rattle.lvn_blocks.specs.Block.{body-bytes, indexes, Asks, Done, most-made}
+use Rattle.lvn_blocks.specs.Block.{body-bytes, indexes, Asks, Done}
 use Rattle.lvn_blocks.specs.Blocks.{BlocksAsk, block-as, BlockDone, numbered-in}
 
 -- ---- the instructions of a block, read again
@@ -116,31 +116,36 @@ pub body-asks :
     count ≡ num-at s (a .p) 2 →
     BlocksAsk w N args a 1 hs ns →
     BlocksPass N (block-in w s (a .p) ∷ []) →
-    Maps env homes →
+    length env ≡ 256 →
+    length homes ≡ 512 →
     length hs′ ≡ length hs →
     state-of env homes st hs′ ns ≡ start args (a .k) →
     Asks w N s env homes (record { st = st; p = a .p + 4; q = a .q + 4 }) count hs′ ns
-body-asks {w} {N} {args} {s} {a} st count env homes hs ns hs′ c b h m l e =
+body-asks {w} {N} {args} {s} {a} st count env homes hs ns hs′ c b h names numbers l e =
     let few : num-at s (a .p) 2 ≤ 256 = size-most w N args (λ x. 0) s a h in
     let k : st .made ≡ a .k = ap (λ (x : State). x .temps) e ∙ start-temps args (a .k) in
-    let r : room (state-of env homes st [] []) ≡ 256 =
-    room-of env homes st [] [] hs′ ns ∙ ap room e ∙ start-room args (a .k) (b .arguments) in
+    let m = length env in
+    let args-fit : args ≤ 256 = b .arguments in
+    let r : room m (state-of env homes st [] []) ≡ m =
+    room-of m env homes st [] [] hs′ ns ∙ ap (room m) e ∙ start-room m args (a .k) (omega arith) in
+    let heads : 512 ≤ length hs = b .heads in
+    let nums : 512 ≤ length ns = b .nums in
     let is : block-in w s (a .p) .body ≡ instrs-from w s (a .p + 4) count =
     body-again w s (a .p) ∙ ap (instrs-from w s (a .p + 4)) (sym c) in
     record {
       width = b .width;
-      fit =
-          record {
-            names = b .names;
-            made = let x : a .k + 256 * 1 ≤ most-made = b .made in omega arith;
-            room = omega (arith, r, few, c);
-            reads = let x : a .p + longest-block * 1 < places-end = b .reads in omega arith;
-            writes = let x : a .q + longest-block-lines * 1 < places-end = b .writes in omega arith;
-          };
-      maps = m;
+      some = omega (arith, names);
+      names = let x : N ≤ 256 = b .names in omega arith;
+      numbers = omega (arith, r, few, c, names, numbers);
+      made = let x : N + a .k + 256 * 1 < 65535 = b .made in omega (arith, k, few, c, x);
+      reads = let x : a .p + longest-block * 1 < places-end = b .reads in omega arith;
+      writes = let x : a .q + longest-block-lines * 1 < places-end = b .writes in omega arith;
       tables =
-          let x : 512 ≤ length hs = b .tables .heads in
-          record { heads = omega arith; nums = b .tables .nums };
+          record {
+            maps = record { names = omega arith; numbers = omega arith };
+            heads = omega arith;
+            nums = omega arith;
+          };
       passing = subst (Passing N) is (passing-all N (h .blocks) (block-in w s (a .p) .body) (h .each .0 .body));
     }
 

@@ -23,12 +23,12 @@ use Rattle.read_instrs.specs.declared.Read.{Read}
 use Rattle.read_instrs.specs.Again.{ReadAgain}
 use Rattle.lvn_state.specs.View.{state-of, saves-of}
 use Rattle.lvn_state.specs.Room.{room}
-use Rattle.lvn_state.proofs.Room.{Grows, instr-grows, room-of, maps-kept}
+use Rattle.lvn_state.proofs.Room.{Grows, instr-grows, room-of, tables-kept}
 use Rattle.lvn_instr.specs.declared.Emitted.{Emitted}
 use Rattle.lvn_instr.specs.View.{emitted-of}
 use Rattle.lvn_blocks.specs.declared.Turn.{Turn}
-use Rattle.lvn_blocks.specs.Block.{body-bytes, saved-by, indexes, lines, most-made}
-use Rattle.lvn_blocks.specs.Block.{Fit, Asks, Turned, body-of, temps-of, Done}
+use Rattle.lvn_blocks.specs.Block.{body-bytes, saved-by, indexes, lines}
+use Rattle.lvn_blocks.specs.Block.{Asks, Turned, body-of, temps-of, Done}
 use Rattle.lvn_blocks.proofs.Accepted.{reads-low}
 use Rattle.lvn_blocks.proofs.Lines.{body-append, saved-append, emitted-noted}
 
@@ -170,70 +170,78 @@ passing-more :
     Passing N (instr-from w s p ∷ instrs-from w s (instr-end w s p) (n - 1))
 passing-more {N} w s p n h a = subst (Passing N) (instrs-more w s p n h) a
 
-fit-one : {N : ℕ} {s : State} {p q : ℕ} (n : ℕ) → 0 < n → Fit N s p q n → Fit N s p q 1
-fit-one {N} {s} {p} {q} n h f =
-    record {
-      names = f .names;
-      made = let a : s .temps + n ≤ most-made = f .made in omega arith;
-      room = let a : room s + n ≤ 512 = f .room in omega arith;
-      reads = let a : p + longest-instr * n < places-end = f .reads in omega arith;
-      writes = let a : q + longest-lines * n < places-end = f .writes in omega arith;
-    }
-
-module _
-    {w N : ℕ} {s : List ℕ} {ty : NameIx → ℕ} {t r : Turn} (n : ℕ) (env homes hs ns env′ homes′ hs′ ns′ : List ℕ)
-    {made made′ out out′ : List ℕ}
-  where
-    fit-less :
-        0 < n →
-        Passes N (instr-from w s (t .p)) →
-        Turned w N s ty t r (state-of env homes (t .st) hs ns) (state-of env′ homes′ (r .st) hs′ ns′) made made′ out out′ →
-        Fit N (state-of env homes (t .st) [] []) (t .p) (t .q) n →
-        Fit N (state-of env′ homes′ (r .st) [] []) (r .p) (r .q) (n - 1)
-    fit-less h a d f =
-        let i = instr-from w s (t .p) in
-        let st = state-of env homes (t .st) hs ns in
-        let grows : Grows st (instr-lvn N ty st i .state) = instr-grows N ty st i (reads-low ty i (a .ok) (f .names)) in
-        let k : r .st .made ≡ instr-lvn N ty st i .state .temps = ap (λ (y : State). y .temps) (d .state) in
-        let l : room (state-of env′ homes′ (r .st) [] []) ≡ room (instr-lvn N ty st i .state) =
-        room-of env′ homes′ (r .st) [] [] hs′ ns′ ∙ ap room (d .state) in
-        let m : room (state-of env homes (t .st) [] []) ≡ room st = room-of env homes (t .st) [] [] hs ns in
-        let b : room (instr-lvn N ty st i .state) ≤ suc (room st) = grows .room in
-        let c : instr-lvn N ty st i .state .temps ≤ suc (t .st .made) = grows .temps in
-        record {
-          names = f .names;
-          made = let x : t .st .made + n ≤ most-made = f .made in omega (arith, k, c, x);
-          room = let x : room (state-of env homes (t .st) [] []) + n ≤ 512 = f .room in omega (arith, l, m, b, x);
-          reads = let x : t .p + longest-instr * n < places-end = f .reads in let y : r .p ≤ t .p + longest-instr = d .near in omega arith;
-          writes = let x : t .q + longest-lines * n < places-end = f .writes in let y : r .q ≤ t .q + longest-lines = d .close in omega arith;
-        }
-
 module _
     {w N : ℕ} {s env homes : List ℕ} {t : Turn} (n : ℕ) {hs ns : List ℕ} (h : 0 < n) (a : Asks w N s env homes t n hs ns)
   where
-    pub asks-fit : Fit N (state-of env homes (t .st) [] []) (t .p) (t .q) 1
-    asks-fit = fit-one n h (a .fit)
-
     pub asks-passes : Passes N (instr-from w s (t .p))
     asks-passes = passing-more w s (t .p) n h (a .passing) .0
 
-    pub asks-less :
-        {ty : NameIx → ℕ} {r : Turn} (env′ homes′ hs′ ns′ : List ℕ) {made made′ out out′ : List ℕ} →
-        length env′ ≡ length env →
-        length homes′ ≡ length homes →
-        length hs′ ≡ length hs →
-        length ns′ ≡ length ns →
-        Turned w N s ty t r (state-of env homes (t .st) hs ns) (state-of env′ homes′ (r .st) hs′ ns′) made made′ out out′ →
-        Asks w N s env′ homes′ r (n - 1) hs′ ns′
-    asks-less {r = r} env′ homes′ hs′ ns′ j k e f d =
+    pub asks-one : Asks w N s env homes t 1 hs ns
+    unfolding instrs-from items
+    asks-one =
         record {
           width = a .width;
-          fit = fit-less n env homes hs ns env′ homes′ hs′ ns′ h asks-passes d (a .fit);
-          maps = maps-kept j k (a .maps);
-          tables =
-              let x : 512 ≤ length hs = a .tables .heads in
-              let y : 512 ≤ length ns = a .tables .nums in
-              record { heads = omega arith; nums = omega arith };
-          passing =
-              subst (λ (p : ℕ). Passing N (instrs-from w s p (n - 1))) (sym (d .next)) (passing-more w s (t .p) n h (a .passing) .1);
+          some = a .some;
+          names = a .names;
+          numbers =
+              let x : room (length env) (state-of env homes (t .st) [] []) + n ≤ length homes = a .numbers in omega (arith, h, x);
+          made = let x : N + t .st .made + n < 65535 = a .made in omega arith;
+          reads = let x : t .p + longest-instr * n < places-end = a .reads in omega arith;
+          writes = let x : t .q + longest-lines * n < places-end = a .writes in omega arith;
+          tables = a .tables;
+          passing = (asks-passes, tt);
         }
+
+    module _
+        {ty : NameIx → ℕ} {r : Turn} (env′ homes′ hs′ ns′ : List ℕ) {made made′ out out′ : List ℕ}
+        (env-kept : length env′ ≡ length env) (homes-kept : length homes′ ≡ length homes)
+        (hs-kept : length hs′ ≡ length hs) (ns-kept : length ns′ ≡ length ns)
+        (d : Turned w N s ty t r (state-of env homes (t .st) hs ns) (state-of env′ homes′ (r .st) hs′ ns′) made made′ out out′)
+      where
+        abbrev before : State
+        before = state-of env homes (t .st) hs ns
+
+        abbrev behind-it : State
+        behind-it = instr-lvn N ty before (instr-from w s (t .p)) .state
+
+        grows : Grows (length env) before behind-it
+        grows =
+            instr-grows (length env) N ty before (instr-from w s (t .p)) (reads-low (instr-from w s (t .p)) (asks-passes .ok) (a .names) ty)
+
+        numbers-less : room (length env′) (state-of env′ homes′ (r .st) [] []) + (n - 1) ≤ length homes′
+        numbers-less =
+            let m = length env in
+            let k : room (length env′) (state-of env′ homes′ (r .st) [] []) ≡ room m behind-it =
+            ap (λ (l : ℕ). room l (state-of env′ homes′ (r .st) [] [])) env-kept ∙ room-of m env′ homes′ (r .st) [] [] hs′ ns′ ∙
+            ap (room m) (d .state) in
+            let l : room m (state-of env homes (t .st) [] []) ≡ room m before = room-of m env homes (t .st) [] [] hs ns in
+            let b : room m behind-it ≤ suc (room m before) = grows .room in
+            let x : room m (state-of env homes (t .st) [] []) + n ≤ length homes = a .numbers in
+            omega (arith, h, k, l, b, x, homes-kept)
+
+        pub asks-less : Asks w N s env′ homes′ r (n - 1) hs′ ns′
+        asks-less =
+            let some : 0 < length env = a .some in
+            let names : N ≤ length env = a .names in
+            record {
+              width = a .width;
+              some = omega arith;
+              names = omega arith;
+              numbers = numbers-less;
+              made =
+                  let k : r .st .made ≡ behind-it .temps = ap (λ (y : State). y .temps) (d .state) in
+                  let b : behind-it .temps ≤ suc (t .st .made) = grows .temps in
+                  let x : N + t .st .made + n < 65535 = a .made in
+                  omega (arith, h, k, b, x);
+              reads =
+                  let x : t .p + longest-instr * n < places-end = a .reads in
+                  let y : r .p ≤ t .p + longest-instr = d .near in
+                  omega arith;
+              writes =
+                  let x : t .q + longest-lines * n < places-end = a .writes in
+                  let y : r .q ≤ t .q + longest-lines = d .close in
+                  omega arith;
+              tables = tables-kept env-kept homes-kept hs-kept ns-kept (a .tables);
+              passing =
+                  subst (λ (p : ℕ). Passing N (instrs-from w s p (n - 1))) (sym (d .next)) (passing-more w s (t .p) n h (a .passing) .1);
+            }

@@ -15,7 +15,7 @@ use Rattle.numbering.specs.State.{State}
 use Rattle.numbering.specs.Number.{Emitted, instr-lvn, block-lvn, saved-in}
 use Rattle.write_bytes.specs.Put.{Wrote, IdWidth}
 use Rattle.lvn_state.specs.View.{state-of}
-use Rattle.lvn_state.specs.Room.{room, Maps}
+use Rattle.lvn_state.specs.Room.{room, Tables}
 use Rattle.lvn_blocks.specs.declared.Turn.{Turn}
 
 -- ---- writing
@@ -37,29 +37,17 @@ indexes xs = map (λ x. x .0) xs
 abbrev pub lines : Emitted → List Instr
 lines e = e .saves ++ (e .instr ∷ [])
 
--- K stays far below 65535, so that N + K is the number of a name
-abbrev pub most-made : ℕ
-most-made = 32768
-
--- ---- what n more instructions ask, of a state, a place in the input and one in the output
-pub record Fit (N : ℕ) (s : State) (p q n : ℕ) : Type 0 where
-  pub names : N ≤ 256
-  pub made : s .temps + n ≤ most-made
-  pub room : room s + n ≤ 512
-  pub reads : p + longest-instr * n < places-end
-  pub writes : q + longest-lines * n < places-end
-
--- the table of numbered values has room for every number
-pub record Tables (hs ns : List ℕ) : Type 0 where
-  pub heads : 512 ≤ length hs
-  pub nums : 512 ≤ length ns
-
--- all that is asked where n instructions are left
+-- ---- what is asked where n instructions are left: that they pass their tests, and that the names of the input, the numbers and made
+-- names that they can need, and the places that they reach all have room
 pub record Asks (w N : ℕ) (s env homes : List ℕ) (t : Turn) (n : ℕ) (hs ns : List ℕ) : Type 0 where
   pub width : IdWidth w
-  pub fit : Fit N (state-of env homes (t .st) [] []) (t .p) (t .q) n
-  pub maps : Maps env homes
-  pub tables : Tables hs ns
+  pub some : 0 < length env
+  pub names : N ≤ length env
+  pub numbers : room (length env) (state-of env homes (t .st) [] []) + n ≤ length homes
+  pub made : N + t .st .made + n < 65535
+  pub reads : t .p + longest-instr * n < places-end
+  pub writes : t .q + longest-lines * n < places-end
+  pub tables : Tables env homes hs ns
   pub passing : Passing N (instrs-from w s (t .p) n)
 
 -- ---- one instruction done: st is the state before it and st′ behind it; made: the table of what each K saved

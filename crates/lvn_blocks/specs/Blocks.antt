@@ -2,6 +2,7 @@
 use Prim.Native.Nat.{ℕ, _+_, _*_, _<_, _≤_}
 use mathlib.Core.List.{List, map}
 use mathlib.Core.Path.{_≡_}
+use lib.ListN.{length}
 use Rattle.record.specs.declared.NameIx.{NameIx}
 use Rattle.record.specs.Record.{Instr, Block, Function, names-of}
 use Rattle.record.specs.Write.{join, block-bytes}
@@ -12,17 +13,18 @@ use Rattle.numbering.specs.State.{start}
 use Rattle.numbering.specs.Number.{Numbered, block-lvn, blocks-lvn, count-saves, saved-in, made-from}
 use Rattle.write_bytes.specs.Put.{Wrote, IdWidth}
 use Rattle.lvn_blocks.specs.declared.Places.{Places}
-use Rattle.lvn_blocks.specs.Block.{indexes, Tables, most-made}
+use Rattle.lvn_blocks.specs.Block.{indexes}
 
--- ---- what n more blocks ask
+-- ---- what n more blocks ask: a block has at most 256 instructions, so with 256 names it needs at most 512 numbers
 pub record BlocksAsk (w N args : ℕ) (a : Places) (n : ℕ) (hs ns : List ℕ) : Type 0 where
   pub width : IdWidth w
   pub names : N ≤ 256
   pub arguments : args ≤ 256
-  pub made : a .k + 256 * n ≤ most-made
+  pub made : N + a .k + 256 * n < 65535
   pub reads : a .p + longest-block * n < places-end
   pub writes : a .q + longest-block-lines * n < places-end
-  pub tables : Tables hs ns
+  pub heads : 512 ≤ length hs
+  pub nums : 512 ≤ length ns
 
 -- ---- a block as it is written
 abbrev pub block-as : ℕ → Numbered → Block Instr

@@ -9,7 +9,6 @@ use Rattle.lvn_blocks.specs.declared.Places.{Places}
 use Rattle.lvn_blocks.specs.declared.Spot.{Spot}
 use Rattle.lvn_blocks.specs.declared.SaveCount.{SaveCount}
 use Rattle.lvn_blocks.specs.Blocks.{BlocksAsk, numbered-in, BlockDone}
-use Rattle.lvn_blocks.specs.Block.{most-made}
 
 -- the places of a block, and K
 abbrev pub places : Spot → SaveCount → Places
@@ -19,7 +18,7 @@ places at c = record { p = at .p; q = at .q; k = c .k }
 pub record CountAsk (w N args : ℕ) (s : List ℕ) (at : Spot) (c : SaveCount) (hs ns : List ℕ) : Type 0 where
   pub ask : BlocksAsk w N args (places at c) 1 hs ns
   pub pass : BlocksPass N (block-in w s (at .p) ∷ [])
-  pub total : c .total + 256 ≤ most-made
+  pub total : c .total ≤ c .k
 
 -- it is done: r is the place behind it and c′ the count there, whose K is the one behind the block and whose total has grown by its saves
 pub record CountDone

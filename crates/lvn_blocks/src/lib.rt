@@ -12,8 +12,7 @@ ghost use Rattle.record.specs.Again.{Passes, block-in, blocks-in, BlocksPass};
 ghost use Rattle.record.specs.Sizes.{longest-instr, longest-lines, places-end};
 ghost use Rattle.write_bytes.specs.Put.{put, Wrote, IdWidth};
 ghost use Rattle.lvn_state.specs.View.{state-of, saves-of};
-ghost use Rattle.lvn_state.specs.Room.{Maps};
-ghost use Rattle.lvn_blocks.specs.Block.{save-before, body-bytes, saved-by, Fit, Tables, Asks, Turned, Done};
+ghost use Rattle.lvn_blocks.specs.Block.{save-before, body-bytes, saved-by, Asks, Turned, Done};
 ghost use Rattle.lvn_blocks.specs.Blocks.{BlocksAsk, BlockDone, BlocksDone};
 ghost use Rattle.lvn_blocks.specs.Counted.{CountAsk, CountDone};
 use arith::One;
@@ -98,9 +97,7 @@ pub fn turn_once(
     n: u16,
     t: Turn,
 ) -> Turn
-    requires { ⌜
-        Fit n (state-of (now env) (now homes) (t .st) [] []) (t .p) (t .q) 1 ×
-        (IdWidth w × (Maps (now env) (now homes) × (Tables (now heads) (now nums) × Passes n (instr-from w (now s) (t .p))))) ⌝ }
+    requires { ⌜ Asks w n (now s) (now env) (now homes) t 1 (now heads) (now nums) ⌝ }
     ensures { λ r. ⌜
         Turned w n (now (s .entry)) (type-in (now (types .entry))) t r
         (state-of (now (env .entry)) (now (homes .entry)) (t .st) (now (heads .entry)) (now (nums .entry)))

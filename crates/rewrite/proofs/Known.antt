@@ -82,10 +82,11 @@ module _ {s : List ℕ} {end : ℕ} (h : Reads s end) where
         width = subst IdWidth (sym e) (id-width (num-at s 4 1));
         names = omega (arith, types-many t, few-original);
         arguments = omega (arith, a, few-args);
-        made = omega arith;
+        made = omega (arith, n, types-many t, few-original);
         reads = omega arith;
         writes = omega arith;
-        tables = record { heads = i; nums = j };
+        heads = i;
+        nums = j;
       }
 
   module _

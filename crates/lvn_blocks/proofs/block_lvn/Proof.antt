@@ -1,11 +1,16 @@
 -- `lvn_blocks::block_lvn` meets its contract.
-use mathlib.Core.Path.{_∙_}
+use mathlib.Core.Path.{refl, _∙_}
 use native.Mathlib.Omega.{arith}
 use borrow.Author.Needs.{needs}
 use Rattle.record.specs.Record.{type-in}
 use Rattle.lvn_blocks.proofs.Heads.{body-asks, head-fits, block-done}
 use Rattle.lvn_blocks.proofs.block_lvn.Statement.{statement}
 use Rattle.lvn_blocks.proofs.block_lvn.Tie as tie
+
+start-requires : tie.Need-start-requires
+start-requires c κs =
+    let p = c .before .before .before .before .before .before .before .before .before .before .pre .0 in
+    (refl, (refl, (p .arguments, (omega (arith, p .arguments), omega (arith, p .arguments, p .heads)))))
 
 body-lvn-requires : tie.Need-body-lvn-requires
 body-lvn-requires c κs =
@@ -17,7 +22,7 @@ body-lvn-requires c κs =
     let st = c12 .start in
     let n = c16 .be16 in
     body-asks (st .result) (n .result) (st .last .0) (st .last .1 .0) (a .heads .now) (a .nums .now) (st .last .1 .1 .0) (n .ensures .0)
-    (p .0) (p .1) (record { names = st .kept .0; numbers = st .kept .1 .0 }) (st .kept .1 .1 .0) (st .ensures (a .nums .now))
+    (p .0) (p .1) (st .kept .0) (st .kept .1 .0) (st .kept .1 .1 .0) (st .ensures (a .nums .now))
 
 sub-saves : tie.Need-sub-saves
 sub-saves c =
@@ -105,6 +110,6 @@ returns c =
 pub block-lvn-spec : {M : Type 1} → statement M
 block-lvn-spec =
     tie.close
-    (tie.spec (λ c κs. search needs) (λ c. search needs) (λ c. search needs) (λ c κs. search needs)
+    (tie.spec (λ c κs. search needs) (λ c. search needs) (λ c. search needs) start-requires
     (λ c. search needs) (λ c. search needs) (λ c. search needs) (λ c. search needs) body-lvn-requires sub-saves
     cast-put-head add-put-head put-head-requires same-length same-length-2 same-length-3 same-length-4 returns)

@@ -8,7 +8,7 @@ use borrow.Author.Needs.{needs}
 use Rattle.record.specs.Record.{type-in}
 use Rattle.lvn_state.specs.View.{state-of}
 use Rattle.lvn_blocks.specs.Block.{Asks}
-use Rattle.lvn_blocks.proofs.Turned.{Going, going-all, going-none, going-less, asks-fit, asks-passes, asks-less}
+use Rattle.lvn_blocks.proofs.Turned.{Going, going-all, going-none, going-less, asks-one, asks-less}
 use Rattle.lvn_blocks.proofs.body_lvn.Statement.{statement}
 use Rattle.lvn_blocks.proofs.body_lvn.Tie as tie
 
@@ -42,8 +42,7 @@ turn-once-requires c κs =
     let c7 = c6 .before in
     let v = c7 .loop in
     let h = c6 .loop-test .taken in
-    let a = v .inv .0 in
-    (asks-fit (v .left) h a, (a .width, (a .maps, (a .tables, asks-passes (v .left) h a))))
+    asks-one (v .left) h (v .inv .0)
 
 loop-again : tie.Need-loop-again Inv-loop μ-loop
 loop-again c =
