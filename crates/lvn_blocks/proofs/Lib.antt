@@ -5,4 +5,6 @@ pub mod Heads
 pub mod Blocks
 pub mod Whole
 pub mod Counted
+pub mod Row
+pub mod Runs
 pub mod Lent
