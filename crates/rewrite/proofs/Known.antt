@@ -36,15 +36,15 @@ module _ {s : List ℕ} {end : ℕ} (h : Reads s end) where
   made-each =
       let x = record-in s in
       let k : temps-behind (function x) 0 (x .blocks) ≤ 0 + 256 * length (x .blocks) =
-      blocks-few (function x) (length (x .blocks)) (x .blocks) 0 (input-blocks x record-ok) in
-      rw (h .names) (omega (arith, k, made-count x record-ok, blocks-number s))
+      blocks-few (function x) (length (x .blocks)) (x .blocks) 0 (input-blocks x (record-ok h)) in
+      rw (h .names) (omega (arith, k, made-count x (record-ok h), blocks-number s))
 
   -- the names are copied whole, and what follows them stands behind
   pub names-before :
       {p q : ℕ} → p ≡ 8 + length (take (end - 8) (drop 8 s)) → p ≤ q → end + 2 ≤ q + 2
   names-before e f =
       let l : length (take (end - 8) (drop 8 s)) ≡ end - 8 =
-      length-take-le (end - 8) (drop 8 s) (omega (arith, length-drop 8 s, h .names, names-lie)) in
+      length-take-le (end - 8) (drop 8 s) (omega (arith, length-drop 8 s, h .names, names-lie h)) in
       omega (arith, e, f, l)
 
   types-many : {types : List ℕ} → types ≡ types-in s → length types ≡ names-count s
@@ -76,13 +76,13 @@ module _ {s : List ℕ} {end : ℕ} (h : Reads s end) where
       512 ≤ length hs → 512 ≤ length ns →
       BlocksAsk w (length types) args (record { p = end + 2; q = at; k = 0 }) count hs ns
   blocks-ask w args at count t e a f b i j =
-      let n : count ≤ 64 = omega (arith, f, few-blocks) in
+      let n : count ≤ 64 = omega (arith, f, few-blocks h) in
       let m : end ≤ longest-names = h .near in
       record {
         width = subst IdWidth (sym e) (id-width (num-at s 4 1));
-        names = omega (arith, types-many t, few-original);
-        arguments = omega (arith, a, few-args);
-        made = omega (arith, n, types-many t, few-original);
+        names = omega (arith, types-many t, few-original h);
+        arguments = omega (arith, a, few-args h);
+        made = omega (arith, n, types-many t, few-original h);
         reads = omega arith;
         writes = omega arith;
         heads = i;
