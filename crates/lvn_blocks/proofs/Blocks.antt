@@ -3,18 +3,22 @@ use Prim.Native.Nat.{ℕ, _+_, _-_, _*_, _<_, _≤_}
 use mathlib.Core.Path.{_≡_, refl, sym, ap, _∙_, subst}
 use mathlib.Core.List.{List, [], _∷_, _++_, map, map-append}
 use native.Mathlib.Omega.{arith}
-use lib.ListN.{length}
+use lib.ListN.{length, length-map}
 use Rattle.record.specs.declared.NameIx.{NameIx}
 use Rattle.record.specs.Record.{Instr, Block, Function, names-of, type-in}
 use Rattle.record.specs.Write.{join, block-bytes}
-use Rattle.record.specs.Decode.{items, behind, block-end}
-use Rattle.record.specs.Again.{block-in, blocks-in, blocks-behind, BlocksPass}
+use Rattle.record.specs.Decode.{items, block-end}
+use Rattle.record.specs.Again.{block-in, blocks-in, BlocksPass}
 use Rattle.record.specs.Sizes.{longest-block, longest-block-lines, places-end}
 use Rattle.record.proofs.Again.{one-more}
-use Rattle.numbering.specs.Number.{Numbered, blocks-lvn, saved-in, made-from}
+use Rattle.numbering.specs.Number.{Numbered, blocks-lvn, count-saves, saved-in, made-from}
+use Rattle.numbering.proofs.Made.{saved-in-length}
+use Rattle.write_bytes.specs.Put.{Wrote}
 use Rattle.write_bytes.proofs.Wrote.{Rest, rest-all, rest-less, rest-none}
-use Rattle.lvn_blocks.specs.declared.Places.{Places}
-use Rattle.lvn_blocks.specs.Block.{indexes, most-made}
+use Rattle.lvn_blocks.specs.declared.Frame.{Frame}
+use Rattle.lvn_blocks.specs.declared.Spot.{Spot}
+use Rattle.lvn_blocks.specs.declared.SaveCount.{SaveCount}
+use Rattle.lvn_blocks.specs.Block.{indexes}
 use Rattle.lvn_blocks.specs.Blocks.{BlocksAsk, block-as, BlockDone, numbered-in, BlocksDone}
 
 -- ---- blocks in a row
@@ -23,10 +27,6 @@ module _ (w : ℕ) (s : List ℕ) (p n : ℕ) (h : 0 < n) where
   unfolding blocks-in items
   blocks-more = ap (items (block-in w s) (block-end w s) p) (one-more n h)
 
-  behind-more : blocks-behind w s p n ≡ blocks-behind w s (block-end w s p) (n - 1)
-  unfolding blocks-behind behind
-  behind-more = ap (behind (block-end w s) p) (one-more n h)
-
 -- ---- the bytes of blocks, and what they saved
 abbrev all-bytes : ℕ → List (Block Instr) → List ℕ
 all-bytes w bs = join (map (block-bytes w) bs)
@@ -34,24 +34,38 @@ all-bytes w bs = join (map (block-bytes w) bs)
 abbrev all-saved : ℕ → List (Block Instr) → List ℕ
 all-saved N bs = indexes (made-from N bs)
 
-module _ (w : ℕ) (f : Function) (s : List ℕ) (a : Places) (n : ℕ) (h : 0 < n) where
+-- what the head of a record says whose function is f, with so many blocks
+abbrev frame-of : ℕ → Function → ℕ → Frame
+frame-of w f n = record { width = w; names = names-of f; args = f .args; blocks = n }
+
+module _
+    (F : Frame) (f : Function) {s : List ℕ} {ty : NameIx → ℕ} {at : Spot} {c : SaveCount} {r : Spot} {c′ : SaveCount}
+    {made made′ out out′ : List ℕ}
+  where
+    pub framed :
+        F .names ≡ names-of f → F .args ≡ f .args → BlockDone F s ty at c r c′ made made′ out out′ →
+        BlockDone (frame-of (F .width) f (F .blocks)) s ty at c r c′ made made′ out out′
+    framed names args d =
+        subst (λ (G : Frame). BlockDone G s ty at c r c′ made made′ out out′)
+        (λ i. record { width = F .width; names = names i; args = args i; blocks = F .blocks }) d
+
+module _ (w : ℕ) (f : Function) (s : List ℕ) (p k n : ℕ) (h : 0 < n) where
   abbrev first : Numbered
-  first = numbered-in w (names-of f) (f .args) s (type-in (f .types)) a
+  first = numbered-in (frame-of w f 0) s (type-in (f .types)) p k
 
   abbrev others : List (Block Instr)
-  others = blocks-lvn f (first .temps) (blocks-in w s (block-end w s (a .p)) (n - 1))
+  others = blocks-lvn f (first .temps) (blocks-in w s (block-end w s p) (n - 1))
 
-  lvn-more : blocks-lvn f (a .k) (blocks-in w s (a .p) n) ≡ block-as (names-of f) first ∷ others
+  lvn-more : blocks-lvn f k (blocks-in w s p n) ≡ block-as (names-of f) first ∷ others
   unfolding blocks-lvn
-  lvn-more = ap (blocks-lvn f (a .k)) (blocks-more w s (a .p) n h)
+  lvn-more = ap (blocks-lvn f k) (blocks-more w s p n h)
 
-  bytes-more :
-      all-bytes w (blocks-lvn f (a .k) (blocks-in w s (a .p) n)) ≡ block-bytes w (block-as (names-of f) first) ++ all-bytes w others
+  bytes-more : all-bytes w (blocks-lvn f k (blocks-in w s p n)) ≡ block-bytes w (block-as (names-of f) first) ++ all-bytes w others
   unfolding join
   bytes-more = ap (all-bytes w) lvn-more
 
   saved-more :
-      all-saved (names-of f) (blocks-lvn f (a .k) (blocks-in w s (a .p) n)) ≡
+      all-saved (names-of f) (blocks-lvn f k (blocks-in w s p n)) ≡
       indexes (saved-in (names-of f) (first .body)) ++ all-saved (names-of f) others
   unfolding made-from
   saved-more =
@@ -60,102 +74,132 @@ module _ (w : ℕ) (f : Function) (s : List ℕ) (a : Places) (n : ℕ) (h : 0 <
 
 -- ---- the loop: what is left from here gives the whole
 pub record Going
-    (w : ℕ) (f : Function) (s : List ℕ) (a₀ : Places) (n₀ : ℕ) (made₀ out₀ : List ℕ) (a : Places) (n : ℕ) (made out : List ℕ) : Type 0 where
+    (w : ℕ) (f : Function) (s : List ℕ) (at₀ : Spot) (n₀ : ℕ) (made₀ out₀ : List ℕ) (at : Spot) (k n : ℕ) (made out : List ℕ)
+    : Type 0 where
   pub written :
-      Rest out (a .q) (all-bytes w (blocks-lvn f (a .k) (blocks-in w s (a .p) n))) out₀ (a₀ .q)
-      (all-bytes w (blocks-lvn f (a₀ .k) (blocks-in w s (a₀ .p) n₀)))
+      Rest out (at .q) (all-bytes w (blocks-lvn f k (blocks-in w s (at .p) n))) out₀ (at₀ .q)
+      (all-bytes w (blocks-lvn f 0 (blocks-in w s (at₀ .p) n₀)))
   pub noted :
-      Rest made (a .k) (all-saved (names-of f) (blocks-lvn f (a .k) (blocks-in w s (a .p) n))) made₀ (a₀ .k)
-      (all-saved (names-of f) (blocks-lvn f (a₀ .k) (blocks-in w s (a₀ .p) n₀)))
-  pub next : blocks-behind w s (a .p) n ≡ blocks-behind w s (a₀ .p) n₀
-  pub close : a .q + longest-block-lines * n ≤ a₀ .q + longest-block-lines * n₀
-  pub few : a .k + 256 * n ≤ a₀ .k + 256 * n₀
+      Rest made k (all-saved (names-of f) (blocks-lvn f k (blocks-in w s (at .p) n))) made₀ 0
+      (all-saved (names-of f) (blocks-lvn f 0 (blocks-in w s (at₀ .p) n₀)))
+  pub close : at .q + longest-block-lines * n ≤ at₀ .q + longest-block-lines * n₀
 
-module _ {w : ℕ} {f : Function} {s : List ℕ} {a₀ : Places} {n₀ : ℕ} {made₀ out₀ : List ℕ} where
-  pub going-all : Going w f s a₀ n₀ made₀ out₀ a₀ n₀ made₀ out₀
-  going-all = record { written = rest-all; noted = rest-all; next = refl; close = omega arith; few = omega arith }
+module _ {w : ℕ} {f : Function} {s : List ℕ} {at₀ : Spot} {n₀ : ℕ} {made₀ out₀ : List ℕ} where
+  pub going-all : Going w f s at₀ n₀ made₀ out₀ at₀ 0 n₀ made₀ out₀
+  going-all = record { written = rest-all; noted = rest-all; close = omega arith }
 
   pub going-none :
-      {a : Places} (n : ℕ) {made out : List ℕ} → n ≡ 0 →
-      Going w f s a₀ n₀ made₀ out₀ a n made out →
-      BlocksDone w f s a₀ a n₀ made₀ made out₀ out
-  unfolding blocks-lvn blocks-in blocks-behind items behind join made-from
-  going-none {a} n z g =
-      let e : blocks-lvn f (a .k) (blocks-in w s (a .p) n) ≡ [] = ap (λ (m : ℕ). blocks-lvn f (a .k) (blocks-in w s (a .p) m)) z in
+      {at : Spot} (c : SaveCount) (n : ℕ) {made out : List ℕ} → n ≡ 0 → c .k ≡ c .total →
+      Going w f s at₀ n₀ made₀ out₀ at (c .k) n made out →
+      BlocksDone w f s at₀ (record { at = at; count = c }) n₀ made₀ made out₀ out
+  unfolding blocks-lvn blocks-in items join made-from
+  going-none {at} c n {made} z t g =
+      let e : blocks-lvn f (c .k) (blocks-in w s (at .p) n) ≡ [] =
+      ap (λ (m : ℕ). blocks-lvn f (c .k) (blocks-in w s (at .p) m)) z in
       record {
         written = rest-none _ (ap (all-bytes w) e) (g .written);
-        noted = rest-none _ (ap (all-saved (names-of f)) e) (g .noted);
-        next = ap (blocks-behind w s (a .p)) (sym z) ∙ g .next;
-        close = let x : a .q + longest-block-lines * n ≤ a₀ .q + longest-block-lines * n₀ = g .close in omega arith;
-        few = let x : a .k + 256 * n ≤ a₀ .k + 256 * n₀ = g .few in omega arith;
+        noted =
+            subst (λ (k : ℕ). Wrote made₀ made 0 k (all-saved (names-of f) (blocks-lvn f 0 (blocks-in w s (at₀ .p) n₀)))) t
+            (rest-none _ (ap (all-saved (names-of f)) e) (g .noted));
+        close = let x : at .q + longest-block-lines * n ≤ at₀ .q + longest-block-lines * n₀ = g .close in omega arith;
       }
 
   pub going-less :
-      (a r : Places) (n : ℕ) {made made′ out out′ : List ℕ} → 0 < n →
-      BlockDone w (names-of f) (f .args) s (type-in (f .types)) a r made made′ out out′ →
-      Going w f s a₀ n₀ made₀ out₀ a n made out →
-      Going w f s a₀ n₀ made₀ out₀ r (n - 1) made′ out′
-  going-less a r n h d g =
-      let b = first w f s a n h in
-      let bs = others w f s a n h in
-      let e : blocks-lvn f (r .k) (blocks-in w s (r .p) (n - 1)) ≡ bs =
+      (at : Spot) (c : SaveCount) (r : Spot) (c′ : SaveCount) (n m : ℕ) {made made′ out out′ : List ℕ} → 0 < n →
+      BlockDone (frame-of w f m) s (type-in (f .types)) at c r c′ made made′ out out′ →
+      Going w f s at₀ n₀ made₀ out₀ at (c .k) n made out →
+      Going w f s at₀ n₀ made₀ out₀ r (c′ .k) (n - 1) made′ out′
+  going-less at c r c′ n m h d g =
+      let b = first w f s (at .p) (c .k) n h in
+      let bs = others w f s (at .p) (c .k) n h in
+      let e : blocks-lvn f (c′ .k) (blocks-in w s (r .p) (n - 1)) ≡ bs =
       λ z. blocks-lvn f (d .temps z) (blocks-in w s (d .next z) (n - 1)) in
       record {
         written =
             rest-less (block-bytes w (block-as (names-of f) b)) _ _
-            (bytes-more w f s a n h ∙ ap (λ (x : List (Block Instr)). block-bytes w (block-as (names-of f) b) ++ all-bytes w x) (sym e))
+            (bytes-more w f s (at .p) (c .k) n h ∙
+            ap (λ (x : List (Block Instr)). block-bytes w (block-as (names-of f) b) ++ all-bytes w x) (sym e))
             (d .written) (g .written);
         noted =
             rest-less (indexes (saved-in (names-of f) (b .body))) _ _
-            (saved-more w f s a n h ∙
+            (saved-more w f s (at .p) (c .k) n h ∙
             ap (λ (x : List (Block Instr)). indexes (saved-in (names-of f) (b .body)) ++ all-saved (names-of f) x) (sym e))
             (d .noted) (g .noted);
-        next = ap (λ (p : ℕ). blocks-behind w s p (n - 1)) (d .next) ∙ sym (behind-more w s (a .p) n h) ∙ g .next;
-        close = let x : a .q + longest-block-lines * n ≤ a₀ .q + longest-block-lines * n₀ = g .close in let y : r .q ≤ a .q + longest-block-lines = d .close in omega arith;
-        few = let x : a .k + 256 * n ≤ a₀ .k + 256 * n₀ = g .few in let y : r .k ≤ a .k + 256 = d .few in omega arith;
+        close =
+            let x : at .q + longest-block-lines * n ≤ at₀ .q + longest-block-lines * n₀ = g .close in
+            let y : r .q ≤ at .q + longest-block-lines = d .close in
+            omega arith;
       }
+
+-- ---- the count: K and the total grow by the saves of a block alike
+module _
+    {F : Frame} {s : List ℕ} {ty : NameIx → ℕ} {at : Spot} {c : SaveCount} {r : Spot} {c′ : SaveCount} {made made′ out out′ : List ℕ}
+    (d : BlockDone F s ty at c r c′ made made′ out out′)
+  where
+    grown : c′ .k ≡ c .k + count-saves (F .names) (numbered-in F s ty (at .p) (c .k) .body)
+    grown =
+        let is = numbered-in F s ty (at .p) (c .k) .body in
+        d .noted .end ∙ ap (λ (n : ℕ). c .k + n) (length-map (saved-in (F .names) is) (λ (x : NameIx). x .0) ∙ saved-in-length (F .names) is)
+
+    pub alike-less : c .k ≡ c .total → c′ .k ≡ c′ .total
+    alike-less e = let g = grown in omega (arith, g, e, d .total)
 
 -- ---- what the next block asks
-module _ {w N args : ℕ} {a : Places} (n : ℕ) {hs ns : List ℕ} (h : 0 < n) (b : BlocksAsk w N args a n hs ns) where
-  pub ask-one : BlocksAsk w N args a 1 hs ns
-  ask-one =
-      record {
-        width = b .width;
-        names = b .names;
-        arguments = b .arguments;
-        made = let x : a .k + 256 * n ≤ most-made = b .made in omega arith;
-        reads = let x : a .p + longest-block * n < places-end = b .reads in omega arith;
-        writes = let x : a .q + longest-block-lines * n < places-end = b .writes in omega arith;
-        tables = b .tables;
-      }
-
-  pub ask-less :
-      {s : List ℕ} {ty : NameIx → ℕ} {r : Places} {hs′ ns′ made made′ out out′ : List ℕ} →
-      length hs′ ≡ length hs →
-      length ns′ ≡ length ns →
-      BlockDone w N args s ty a r made made′ out out′ →
-      BlocksAsk w N args r (n - 1) hs′ ns′
-  ask-less {r = r} e f d =
-      record {
-        width = b .width;
-        names = b .names;
-        arguments = b .arguments;
-        made = let x : a .k + 256 * n ≤ most-made = b .made in let y : r .k ≤ a .k + 256 = d .few in omega arith;
-        reads = let x : a .p + longest-block * n < places-end = b .reads in let y : r .p ≤ a .p + longest-block = d .near in omega arith;
-        writes = let x : a .q + longest-block-lines * n < places-end = b .writes in let y : r .q ≤ a .q + longest-block-lines = d .close in omega arith;
-        tables =
-            let x : 512 ≤ length hs = b .tables .heads in
-            let y : 512 ≤ length ns = b .tables .nums in
-            record { heads = omega arith; nums = omega arith };
-      }
-
 module _ {N : ℕ} (w : ℕ) (s : List ℕ) (p n : ℕ) (h : 0 < n) (a : BlocksPass N (blocks-in w s p n)) where
   pass-more : BlocksPass N (block-in w s p ∷ blocks-in w s (block-end w s p) (n - 1))
   pass-more = subst (BlocksPass N) (blocks-more w s p n h) a
 
-  pub pass-first : BlocksPass N (block-in w s p ∷ [])
+  pass-first : BlocksPass N (block-in w s p ∷ [])
   pass-first = record { blocks = pass-more .blocks; each = (pass-more .each .0, tt) }
 
-  pub pass-rest : (q : ℕ) → q ≡ block-end w s p → BlocksPass N (blocks-in w s q (n - 1))
+  pass-rest : (q : ℕ) → q ≡ block-end w s p → BlocksPass N (blocks-in w s q (n - 1))
   pass-rest q e =
       subst (λ (k : ℕ). BlocksPass N (blocks-in w s k (n - 1))) (sym e) (record { blocks = pass-more .blocks; each = pass-more .each .1 })
+
+pub block-passes :
+    {F : Frame} {s : List ℕ} {at : Spot} {c : SaveCount} {hs ns : List ℕ} → BlocksAsk F s at c 1 hs ns →
+    BlocksPass (F .names) (block-in (F .width) s (at .p) ∷ [])
+block-passes {F} {s} {at} b = pass-first (F .width) s (at .p) 1 (omega arith) (b .passing)
+
+module _
+    {F : Frame} {s : List ℕ} {at : Spot} {c : SaveCount} (n : ℕ) {hs ns : List ℕ} (h : 0 < n) (b : BlocksAsk F s at c n hs ns)
+  where
+    pub ask-one : BlocksAsk F s at c 1 hs ns
+    unfolding blocks-in items
+    ask-one =
+        record {
+          width = b .width;
+          names = b .names;
+          arguments = b .arguments;
+          heads = b .heads;
+          nums = b .nums;
+          made = let x : F .names + c .k + 256 * n < 65535 = b .made in omega arith;
+          total = b .total;
+          reads = let x : at .p + longest-block * n < places-end = b .reads in omega arith;
+          writes = let x : at .q + longest-block-lines * n < places-end = b .writes in omega arith;
+          passing = pass-first (F .width) s (at .p) n h (b .passing);
+        }
+
+    pub ask-less :
+        {ty : NameIx → ℕ} {r : Spot} {c′ : SaveCount} {hs′ ns′ made made′ out out′ : List ℕ} →
+        length hs′ ≡ length hs →
+        length ns′ ≡ length ns →
+        BlockDone F s ty at c r c′ made made′ out out′ →
+        BlocksAsk F s r c′ (n - 1) hs′ ns′
+    ask-less {r = r} {c′ = c′} e f d =
+        let k : c′ .k ≤ c .k + 256 = d .few in
+        record {
+          width = b .width;
+          names = b .names;
+          arguments = b .arguments;
+          heads = let x : 512 ≤ length hs = b .heads in omega arith;
+          nums = let x : 512 ≤ length ns = b .nums in omega arith;
+          made = let x : F .names + c .k + 256 * n < 65535 = b .made in omega arith;
+          total = let g = grown d in omega (arith, g, d .total, b .total);
+          reads = let x : at .p + longest-block * n < places-end = b .reads in let y : r .p ≤ at .p + longest-block = d .near in omega arith;
+          writes =
+              let x : at .q + longest-block-lines * n < places-end = b .writes in
+              let y : r .q ≤ at .q + longest-block-lines = d .close in
+              omega arith;
+          passing = pass-rest (F .width) s (at .p) n h (b .passing) (r .p) (d .next);
+        }

@@ -24,13 +24,16 @@ use Rattle.numbering.proofs.Passes.{saves-count, block-few}
 use Rattle.write_bytes.specs.Put.{put, Wrote}
 use Rattle.write_bytes.proofs.Wrote.{wrote-before, wrote-last}
 use Rattle.lvn_state.specs.View.{state-of}
-use Rattle.lvn_state.specs.Room.{room, Maps}
+use Rattle.lvn_state.specs.Room.{room}
 use Rattle.lvn_state.specs.declared.LvnState.{LvnState}
 use Rattle.lvn_state.proofs.Room.{room-of, start-room}
+use Rattle.lvn_blocks.specs.declared.Frame.{Frame}
+use Rattle.lvn_blocks.specs.declared.Spot.{Spot}
 use Rattle.lvn_blocks.specs.declared.Turn.{Turn}
-use Rattle.lvn_blocks.specs.declared.Places.{Places}
-use Rattle.lvn_blocks.specs.Block.{body-bytes, indexes, Asks, Done, most-made}
+use Rattle.lvn_blocks.specs.declared.SaveCount.{SaveCount}
+use Rattle.lvn_blocks.specs.Block.{body-bytes, indexes, Asks, Done}
 use Rattle.lvn_blocks.specs.Blocks.{BlocksAsk, block-as, BlockDone, numbered-in}
+use Rattle.lvn_blocks.proofs.Blocks.{block-passes}
 
 -- ---- the instructions of a block, read again
 items-map :
@@ -79,69 +82,70 @@ start-temps : (args k : ℕ) → start args k .temps ≡ k
 unfolding start
 start-temps args k = refl
 
-module _ (w N args : ℕ) (ty : NameIx → ℕ) (s : List ℕ) (a : Places) (h : BlocksPass N (block-in w s (a .p) ∷ [])) where
-  pub size-most : num-at s (a .p) 2 ≤ 256
+module _ (F : Frame) (ty : NameIx → ℕ) (s : List ℕ) (p k : ℕ) (h : BlocksPass (F .names) (block-in (F .width) s p ∷ [])) where
+  pub size-most : num-at s p 2 ≤ 256
   size-most =
-      let e = size-again w s (a .p) in
-      let l : length (block-in w s (a .p) .body) ≤ 256 = at-most-le 256 (length (block-in w s (a .p) .body)) (h .each .0 .size) in
+      let e = size-again (F .width) s p in
+      let l : length (block-in (F .width) s p .body) ≤ 256 = at-most-le 256 (length (block-in (F .width) s p .body)) (h .each .0 .size) in
       omega arith
 
-  pub temps-most : numbered-in w N args s ty a .temps ≤ a .k + 256
+  pub temps-most : numbered-in F s ty p k .temps ≤ k + 256
   temps-most =
-      let is = block-in w s (a .p) .body in
-      let f = block-few N (h .blocks) ty is (start args (a .k)) (h .each .0 .body) .0 in
-      let e = size-again w s (a .p) in
+      let is = block-in (F .width) s p .body in
+      let f = block-few (F .names) (h .blocks) ty is (start (F .args) k) (h .each .0 .body) .0 in
+      let e = size-again (F .width) s p in
       let l = size-most in
-      let z = start-temps args (a .k) in
+      let z = start-temps (F .args) k in
       omega arith
 
-  pub saves-many : numbered-in w N args s ty a .temps ≡ a .k + count-saves N (numbered-in w N args s ty a .body)
+  pub saves-many : numbered-in F s ty p k .temps ≡ k + count-saves (F .names) (numbered-in F s ty p k .body)
   saves-many =
-      let is = block-in w s (a .p) .body in
-      let f = block-temps N ty is (start args (a .k)) (body-originals N (h .blocks) ty is (h .each .0 .body)) in
-      let z = start-temps args (a .k) in
+      let is = block-in (F .width) s p .body in
+      let f = block-temps (F .names) ty is (start (F .args) k) (body-originals (F .names) (h .blocks) ty is (h .each .0 .body)) in
+      let z = start-temps (F .args) k in
       omega arith
 
-  pub lines-many : length (numbered-in w N args s ty a .body) + a .k ≡ num-at s (a .p) 2 + numbered-in w N args s ty a .temps
+  pub lines-many : length (numbered-in F s ty p k .body) + k ≡ num-at s p 2 + numbered-in F s ty p k .temps
   lines-many =
-      let is = block-in w s (a .p) .body in
-      let f = block-length N (h .blocks) ty is (start args (a .k)) (h .each .0 .body) in
-      let e = size-again w s (a .p) in
-      let z = start-temps args (a .k) in
+      let is = block-in (F .width) s p .body in
+      let f = block-length (F .names) (h .blocks) ty is (start (F .args) k) (h .each .0 .body) in
+      let e = size-again (F .width) s p in
+      let z = start-temps (F .args) k in
       omega arith
 
 -- ---- what the body asks; count: how many instructions it has
 pub body-asks :
-    {w N args : ℕ} {s : List ℕ} {a : Places} (st : LvnState) (count : ℕ) (env homes hs ns hs′ : List ℕ) →
-    count ≡ num-at s (a .p) 2 →
-    BlocksAsk w N args a 1 hs ns →
-    BlocksPass N (block-in w s (a .p) ∷ []) →
-    Maps env homes →
+    {F : Frame} {s : List ℕ} {at : Spot} {c : SaveCount} (st : LvnState) (count : ℕ) (env homes hs ns hs′ : List ℕ) →
+    count ≡ num-at s (at .p) 2 →
+    BlocksAsk F s at c 1 hs ns →
+    length env ≡ 256 →
+    length homes ≡ 512 →
     length hs′ ≡ length hs →
-    state-of env homes st hs′ ns ≡ start args (a .k) →
-    Asks w N s env homes (record { st = st; p = a .p + 4; q = a .q + 4 }) count hs′ ns
-body-asks {w} {N} {args} {s} {a} st count env homes hs ns hs′ c b h m l e =
-    let few : num-at s (a .p) 2 ≤ 256 = size-most w N args (λ x. 0) s a h in
-    let k : st .made ≡ a .k = ap (λ (x : State). x .temps) e ∙ start-temps args (a .k) in
-    let r : room (state-of env homes st [] []) ≡ 256 =
-    room-of env homes st [] [] hs′ ns ∙ ap room e ∙ start-room args (a .k) (b .arguments) in
-    let is : block-in w s (a .p) .body ≡ instrs-from w s (a .p + 4) count =
-    body-again w s (a .p) ∙ ap (instrs-from w s (a .p + 4)) (sym c) in
+    state-of env homes st hs′ ns ≡ start (F .args) (c .k) →
+    Asks F s env homes (record { st = st; at = record { p = at .p + 4; q = at .q + 4 } }) count hs′ ns
+body-asks {F} {s} {at} {c} st count env homes hs ns hs′ many b names numbers l e =
+    let h = block-passes b in
+    let few : num-at s (at .p) 2 ≤ 256 = size-most F (λ x. 0) s (at .p) 0 h in
+    let k : st .made ≡ c .k = ap (λ (x : State). x .temps) e ∙ start-temps (F .args) (c .k) in
+    let m = length env in
+    let args-fit : F .args ≤ 256 = b .arguments in
+    let r : room m (state-of env homes st [] []) ≡ m =
+    room-of m env homes st [] [] hs′ ns ∙ ap (room m) e ∙ start-room m (F .args) (c .k) (omega arith) in
+    let heads : 512 ≤ length hs = b .heads in
+    let nums : 512 ≤ length ns = b .nums in
+    let is : block-in (F .width) s (at .p) .body ≡ instrs-from (F .width) s (at .p + 4) count =
+    body-again (F .width) s (at .p) ∙ ap (instrs-from (F .width) s (at .p + 4)) (sym many) in
     record {
       width = b .width;
-      fit =
-          record {
-            names = b .names;
-            made = let x : a .k + 256 * 1 ≤ most-made = b .made in omega arith;
-            room = omega (arith, r, few, c);
-            reads = let x : a .p + longest-block * 1 < places-end = b .reads in omega arith;
-            writes = let x : a .q + longest-block-lines * 1 < places-end = b .writes in omega arith;
-          };
-      maps = m;
+      some = omega (arith, names);
+      names = let x : F .names ≤ 256 = b .names in omega arith;
+      numbers = omega (arith, r, few, many, names, numbers);
+      made = let x : F .names + c .k + 256 * 1 < 65535 = b .made in omega (arith, k, few, many, x);
+      reads = let x : at .p + longest-block * 1 < places-end = b .reads in omega arith;
+      writes = let x : at .q + longest-block-lines * 1 < places-end = b .writes in omega arith;
       tables =
-          let x : 512 ≤ length hs = b .tables .heads in
-          record { heads = omega arith; nums = b .tables .nums };
-      passing = subst (Passing N) is (passing-all N (h .blocks) (block-in w s (a .p) .body) (h .each .0 .body));
+          record { maps = record { names = omega arith; numbers = omega arith }; heads = omega arith; nums = omega arith };
+      passing = subst (Passing (F .names)) is (passing-all (F .names) (h .blocks) (block-in (F .width) s (at .p) .body) (h .each .0 .body));
     }
 
 -- ---- head and body are the block
@@ -164,51 +168,58 @@ head-wrote {out} {m} {out′} {q} {p} w n saves b e f c d =
     (wrote-before 4 head rest l (wrote-last (join (map (instr-bytes w) (b .body))) c) g)
 
 module _
-    {w N : ℕ} {s : List ℕ} (args count : ℕ) (ty : NameIx → ℕ) (a : Places) (r : Turn) (st : LvnState)
+    {F : Frame} {s hs₀ ns₀ : List ℕ} (count : ℕ) (ty : NameIx → ℕ) (at : Spot) (c : SaveCount) (r : Turn) (st : LvnState)
     (env homes hs ns : List ℕ) {made made′ out m : List ℕ}
-    (c : count ≡ num-at s (a .p) 2)
-    (h : BlocksPass N (block-in w s (a .p) ∷ []))
-    (e : state-of env homes st hs ns ≡ start args (a .k))
-    (d : Done w N s ty (record { st = st; p = a .p + 4; q = a .q + 4 }) r (state-of env homes st hs ns) count made made′ out m)
+    (many : count ≡ num-at s (at .p) 2)
+    (b : BlocksAsk F s at c 1 hs₀ ns₀)
+    (e : state-of env homes st hs ns ≡ start (F .args) (c .k))
+    (d : Done F s ty (record { st = st; at = record { p = at .p + 4; q = at .q + 4 } }) r (state-of env homes st hs ns) count
+    made made′ out m)
   where
-    same : block-lvn N ty (state-of env homes st hs ns) (instrs-from w s (a .p + 4) count) ≡ numbered-in w N args s ty a
-    same = λ z. block-lvn N ty (e z) ((ap (instrs-from w s (a .p + 4)) c ∙ sym (body-again w s (a .p))) z)
+    abbrev block : Numbered
+    block = numbered-in F s ty (at .p) (c .k)
 
-    temps-are : r .st .made ≡ numbered-in w N args s ty a .temps
-    temps-are = d .temps ∙ ap (λ (b : Numbered). b .temps) same
+    same : block-lvn (F .names) ty (state-of env homes st hs ns) (instrs-from (F .width) s (at .p + 4) count) ≡ block
+    same =
+        λ z. block-lvn (F .names) ty (e z)
+        ((ap (instrs-from (F .width) s (at .p + 4)) many ∙ sym (body-again (F .width) s (at .p))) z)
 
-    -- so that the numbers of the head are in range
-    pub head-fits : (count ≤ 256) × ((a .k ≤ r .st .made) × (r .st .made ≤ a .k + 256))
+    temps-are : r .st .made ≡ block .temps
+    temps-are = d .temps ∙ ap (λ (x : Numbered). x .temps) same
+
+    -- so that the numbers of the head and the count are in range
+    pub head-fits : (count ≤ 256) × ((c .k ≤ r .st .made) × ((r .st .made ≤ c .k + 256) × (c .total + 256 < 65536)))
     head-fits =
-        let n : num-at s (a .p) 2 ≤ 256 = size-most w N args ty s a h in
+        let n : num-at s (at .p) 2 ≤ 256 = size-most F ty s (at .p) (c .k) (block-passes b) in
         let k = temps-are in
-        let many = saves-many w N args ty s a h in
-        let most = temps-most w N args ty s a h in
-        (omega (arith, n, c), (omega (arith, k, many), omega (arith, k, most)))
+        let saved = saves-many F ty s (at .p) (c .k) (block-passes b) in
+        let most = temps-most F ty s (at .p) (c .k) (block-passes b) in
+        let last : F .names + c .k + 256 * 1 < 65535 = b .made in
+        (omega (arith, n, many), (omega (arith, k, saved), (omega (arith, k, most), omega (arith, last, b .total))))
 
     pub block-done :
         {out′ : List ℕ} →
-        out′ ≡ put m (a .q) (be 2 (count + (r .st .made - a .k)) ++ be 2 (r .st .made - a .k)) →
-        BlockDone w N args s ty a (record { p = r .p; q = r .q; k = r .st .made }) made made′ out out′
+        out′ ≡ put m (at .q) (be 2 (count + (r .st .made - c .k)) ++ be 2 (r .st .made - c .k)) →
+        BlockDone F s ty at c (r .at) (record { k = r .st .made; total = c .total + (r .st .made - c .k) }) made made′ out out′
     block-done {out′} o =
-        let b = numbered-in w N args s ty a in
-        let k : r .st .made ≡ b .temps = temps-are in
-        let many = saves-many w N args ty s a h in
-        let lines = lines-many w N args ty s a h in
+        let k : r .st .made ≡ block .temps = temps-are in
+        let saved = saves-many F ty s (at .p) (c .k) (block-passes b) in
+        let lines = lines-many F ty s (at .p) (c .k) (block-passes b) in
         let n : count ≤ 256 = head-fits .0 in
-        let k₀ : st .made ≡ a .k = ap (λ (x : State). x .temps) e ∙ start-temps args (a .k) in
-        let saves : r .st .made - a .k ≡ count-saves N (b .body) = omega (arith, k, many) in
-        let size : count + (r .st .made - a .k) ≡ length (b .body) = omega (arith, c, k, many, lines) in
-        let body : Wrote out m (a .q + 4) (r .q) (body-bytes w (b .body)) =
-        subst (λ (x : Numbered). Wrote out m (a .q + 4) (r .q) (body-bytes w (x .body))) same (d .written) in
-        let noted : Wrote made made′ (st .made) (r .st .made) (indexes (saved-in N (b .body))) =
-        subst (λ (x : Numbered). Wrote made made′ (st .made) (r .st .made) (indexes (saved-in N (x .body)))) same (d .noted) in
+        let k₀ : st .made ≡ c .k = ap (λ (x : State). x .temps) e ∙ start-temps (F .args) (c .k) in
+        let saves : r .st .made - c .k ≡ count-saves (F .names) (block .body) = omega (arith, k, saved) in
+        let size : count + (r .st .made - c .k) ≡ length (block .body) = omega (arith, many, k, saved, lines) in
+        let body : Wrote out m (at .q + 4) (r .at .q) (body-bytes (F .width) (block .body)) =
+        subst (λ (x : Numbered). Wrote out m (at .q + 4) (r .at .q) (body-bytes (F .width) (x .body))) same (d .written) in
+        let noted : Wrote made made′ (st .made) (r .st .made) (indexes (saved-in (F .names) (block .body))) =
+        subst (λ (x : Numbered). Wrote made made′ (st .made) (r .st .made) (indexes (saved-in (F .names) (x .body)))) same (d .noted) in
         record {
-          written = head-wrote w _ _ (block-as N b) size saves body o;
-          noted = subst (λ (x : ℕ). Wrote made made′ x (r .st .made) (indexes (saved-in N (b .body)))) k₀ noted;
+          written = head-wrote (F .width) _ _ (block-as (F .names) block) size saves body o;
+          noted = subst (λ (x : ℕ). Wrote made made′ x (r .st .made) (indexes (saved-in (F .names) (block .body)))) k₀ noted;
           temps = k;
-          next = d .next ∙ ap (instrs-end w s (a .p + 4)) c ∙ end-again w s (a .p);
-          near = let x : r .p ≤ a .p + 4 + longest-instr * count = d .near in omega (arith, x, n);
-          close = let x : r .q ≤ a .q + 4 + longest-lines * count = d .close in omega (arith, x, n);
-          few = head-fits .1 .1;
+          total = ap (λ (x : ℕ). c .total + x) saves;
+          next = d .next ∙ ap (instrs-end (F .width) s (at .p + 4)) many ∙ end-again (F .width) s (at .p);
+          near = let x : r .at .p ≤ at .p + 4 + longest-instr * count = d .near in omega (arith, x, n);
+          close = let x : r .at .q ≤ at .q + 4 + longest-lines * count = d .close in omega (arith, x, n);
+          few = head-fits .1 .1 .0;
         }

@@ -27,6 +27,8 @@ use denote.Struct.Declared.{Declared, shape, row as row-of}
 use denote.Struct.Laws as LL
 use denote.Struct.Struct.{layout}
 use Rattle.lvn_blocks.proofs.Relent.{Par, copied, relent, sized}
+use Rattle.lvn_blocks.proofs.Frame as F
+use Rattle.lvn_blocks.proofs.Frame.Laws as F′
 use Rattle.lvn_blocks.proofs.Spot as S
 use Rattle.lvn_blocks.proofs.Spot.Laws as S′
 
@@ -104,8 +106,8 @@ module _ {M : Type 1} (𝓤 : URA M) (H : Heap 𝓤) (A : Atoms 𝓤) (W : Given
     typed = λ x is. LL.lawful T L 𝓤 H A W .typed x _ is .0;
   })
 
-  -- s, types, heads, nums, names, out, w, n, args and the place of the block
+  -- s, types, heads, nums, names, out, what the record's head says, and the place of the block
   abbrev pub row : List Kind
   row =
-      shared u8 ∷ shared u8 ∷ exclusive u64 ∷ exclusive u64 ∷ exclusive u16 ∷ exclusive u8 ∷ word w64 ∷ word w16 ∷ word w16 ∷
-      struct S.the-type S′.the-laws ∷ []
+      shared u8 ∷ shared u8 ∷ exclusive u64 ∷ exclusive u64 ∷ exclusive u16 ∷ exclusive u8 ∷
+      struct F.the-type F′.the-laws ∷ struct S.the-type S′.the-laws ∷ []

@@ -1,10 +1,9 @@
 pub mod Accepted
 pub mod Lines
 pub mod Turned
-pub mod Heads
 pub mod Blocks
+pub mod Heads
 pub mod Whole
-pub mod Counted
 pub mod Relent
 pub mod Runs
 pub mod Lent

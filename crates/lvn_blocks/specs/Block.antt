@@ -15,7 +15,8 @@ use Rattle.numbering.specs.State.{State}
 use Rattle.numbering.specs.Number.{Emitted, instr-lvn, block-lvn, saved-in}
 use Rattle.write_bytes.specs.Put.{Wrote, IdWidth}
 use Rattle.lvn_state.specs.View.{state-of}
-use Rattle.lvn_state.specs.Room.{room, Maps}
+use Rattle.lvn_state.specs.Room.{room, Tables}
+use Rattle.lvn_blocks.specs.declared.Frame.{Frame}
 use Rattle.lvn_blocks.specs.declared.Turn.{Turn}
 
 -- ---- writing
@@ -37,57 +38,45 @@ indexes xs = map (λ x. x .0) xs
 abbrev pub lines : Emitted → List Instr
 lines e = e .saves ++ (e .instr ∷ [])
 
--- K stays far below 65535, so that N + K is the number of a name
-abbrev pub most-made : ℕ
-most-made = 32768
-
--- ---- what n more instructions ask, of a state, a place in the input and one in the output
-pub record Fit (N : ℕ) (s : State) (p q n : ℕ) : Type 0 where
-  pub names : N ≤ 256
-  pub made : s .temps + n ≤ most-made
-  pub room : room s + n ≤ 512
-  pub reads : p + longest-instr * n < places-end
-  pub writes : q + longest-lines * n < places-end
-
--- the table of numbered values has room for every number
-pub record Tables (hs ns : List ℕ) : Type 0 where
-  pub heads : 512 ≤ length hs
-  pub nums : 512 ≤ length ns
-
--- all that is asked where n instructions are left
-pub record Asks (w N : ℕ) (s env homes : List ℕ) (t : Turn) (n : ℕ) (hs ns : List ℕ) : Type 0 where
-  pub width : IdWidth w
-  pub fit : Fit N (state-of env homes (t .st) [] []) (t .p) (t .q) n
-  pub maps : Maps env homes
-  pub tables : Tables hs ns
-  pub passing : Passing N (instrs-from w s (t .p) n)
+-- ---- what is asked where n instructions are left: that they pass their tests, and that the names of the input, the numbers and made
+-- names that they can need, and the places that they reach all have room
+pub record Asks (F : Frame) (s env homes : List ℕ) (t : Turn) (n : ℕ) (hs ns : List ℕ) : Type 0 where
+  pub width : IdWidth (F .width)
+  pub some : 0 < length env
+  pub names : F .names ≤ length env
+  pub numbers : room (length env) (state-of env homes (t .st) [] []) + n ≤ length homes
+  pub made : F .names + t .st .made + n < 65535
+  pub reads : t .at .p + longest-instr * n < places-end
+  pub writes : t .at .q + longest-lines * n < places-end
+  pub tables : Tables env homes hs ns
+  pub passing : Passing (F .names) (instrs-from (F .width) s (t .at .p) n)
 
 -- ---- one instruction done: st is the state before it and st′ behind it; made: the table of what each K saved
-abbrev pub emitted-from : ℕ → ℕ → List ℕ → (NameIx → ℕ) → State → ℕ → Emitted
-emitted-from w N s ty st p = instr-lvn N ty st (instr-from w s p)
+abbrev pub emitted-from : Frame → List ℕ → (NameIx → ℕ) → State → ℕ → Emitted
+emitted-from F s ty st p = instr-lvn (F .names) ty st (instr-from (F .width) s p)
 
 pub record Turned
-    (w N : ℕ) (s : List ℕ) (ty : NameIx → ℕ) (t r : Turn) (st st′ : State) (made made′ out out′ : List ℕ) : Type 0 where
-  pub state : st′ ≡ emitted-from w N s ty st (t .p) .state
-  pub written : Wrote out out′ (t .q) (r .q) (body-bytes w (lines (emitted-from w N s ty st (t .p))))
-  pub noted : Wrote made made′ (t .st .made) (r .st .made) (indexes (saved-in N (lines (emitted-from w N s ty st (t .p)))))
-  pub next : r .p ≡ instr-end w s (t .p)
-  pub near : r .p ≤ t .p + longest-instr
-  pub close : r .q ≤ t .q + longest-lines
+    (F : Frame) (s : List ℕ) (ty : NameIx → ℕ) (t r : Turn) (st st′ : State) (made made′ out out′ : List ℕ) : Type 0 where
+  pub state : st′ ≡ emitted-from F s ty st (t .at .p) .state
+  pub written : Wrote out out′ (t .at .q) (r .at .q) (body-bytes (F .width) (lines (emitted-from F s ty st (t .at .p))))
+  pub noted : Wrote made made′ (t .st .made) (r .st .made) (indexes (saved-in (F .names) (lines (emitted-from F s ty st (t .at .p)))))
+  pub next : r .at .p ≡ instr-end (F .width) s (t .at .p)
+  pub near : r .at .p ≤ t .at .p + longest-instr
+  pub close : r .at .q ≤ t .at .q + longest-lines
 
 -- ---- n instructions done
-module _ (w N : ℕ) (s : List ℕ) (ty : NameIx → ℕ) where
+module _ (F : Frame) (s : List ℕ) (ty : NameIx → ℕ) where
   abbrev pub body-of : State → ℕ → ℕ → List Instr
-  body-of st p n = block-lvn N ty st (instrs-from w s p n) .body
+  body-of st p n = block-lvn (F .names) ty st (instrs-from (F .width) s p n) .body
 
   abbrev pub temps-of : State → ℕ → ℕ → ℕ
-  temps-of st p n = block-lvn N ty st (instrs-from w s p n) .temps
+  temps-of st p n = block-lvn (F .names) ty st (instrs-from (F .width) s p n) .temps
 
 pub record Done
-    (w N : ℕ) (s : List ℕ) (ty : NameIx → ℕ) (t r : Turn) (st : State) (n : ℕ) (made made′ out out′ : List ℕ) : Type 0 where
-  pub written : Wrote out out′ (t .q) (r .q) (body-bytes w (body-of w N s ty st (t .p) n))
-  pub noted : Wrote made made′ (t .st .made) (r .st .made) (indexes (saved-in N (body-of w N s ty st (t .p) n)))
-  pub temps : r .st .made ≡ temps-of w N s ty st (t .p) n
-  pub next : r .p ≡ instrs-end w s (t .p) n
-  pub near : r .p ≤ t .p + longest-instr * n
-  pub close : r .q ≤ t .q + longest-lines * n
+    (F : Frame) (s : List ℕ) (ty : NameIx → ℕ) (t r : Turn) (st : State) (n : ℕ) (made made′ out out′ : List ℕ) : Type 0 where
+  pub written : Wrote out out′ (t .at .q) (r .at .q) (body-bytes (F .width) (body-of F s ty st (t .at .p) n))
+  pub noted : Wrote made made′ (t .st .made) (r .st .made) (indexes (saved-in (F .names) (body-of F s ty st (t .at .p) n)))
+  pub temps : r .st .made ≡ temps-of F s ty st (t .at .p) n
+  pub next : r .at .p ≡ instrs-end (F .width) s (t .at .p) n
+  pub near : r .at .p ≤ t .at .p + longest-instr * n
+  pub close : r .at .q ≤ t .at .q + longest-lines * n

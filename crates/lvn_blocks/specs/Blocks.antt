@@ -2,51 +2,61 @@
 use Prim.Native.Nat.{ℕ, _+_, _*_, _<_, _≤_}
 use mathlib.Core.List.{List, map}
 use mathlib.Core.Path.{_≡_}
+use lib.ListN.{length}
 use Rattle.record.specs.declared.NameIx.{NameIx}
 use Rattle.record.specs.Record.{Instr, Block, Function, names-of}
 use Rattle.record.specs.Write.{join, block-bytes}
 use Rattle.record.specs.Decode.{block-end}
-use Rattle.record.specs.Again.{block-in, blocks-in, blocks-behind}
+use Rattle.record.specs.Again.{block-in, blocks-in, BlocksPass}
 use Rattle.record.specs.Sizes.{longest-block, longest-block-lines, places-end}
 use Rattle.numbering.specs.State.{start}
 use Rattle.numbering.specs.Number.{Numbered, block-lvn, blocks-lvn, count-saves, saved-in, made-from}
 use Rattle.write_bytes.specs.Put.{Wrote, IdWidth}
-use Rattle.lvn_blocks.specs.declared.Places.{Places}
-use Rattle.lvn_blocks.specs.Block.{indexes, Tables, most-made}
+use Rattle.lvn_blocks.specs.declared.Frame.{Frame}
+use Rattle.lvn_blocks.specs.declared.Spot.{Spot}
+use Rattle.lvn_blocks.specs.declared.SaveCount.{SaveCount}
+use Rattle.lvn_blocks.specs.declared.Behind.{Behind}
+use Rattle.lvn_blocks.specs.Block.{indexes}
 
--- ---- what n more blocks ask
-pub record BlocksAsk (w N args : ℕ) (a : Places) (n : ℕ) (hs ns : List ℕ) : Type 0 where
-  pub width : IdWidth w
-  pub names : N ≤ 256
-  pub arguments : args ≤ 256
-  pub made : a .k + 256 * n ≤ most-made
-  pub reads : a .p + longest-block * n < places-end
-  pub writes : a .q + longest-block-lines * n < places-end
-  pub tables : Tables hs ns
+-- ---- what n more blocks ask, from a place on, with the count c before them: that they pass their tests, and that there is room. A block has
+-- at most 256 instructions, so with 256 names it needs at most 512 numbers
+pub record BlocksAsk (F : Frame) (s : List ℕ) (at : Spot) (c : SaveCount) (n : ℕ) (hs ns : List ℕ) : Type 0 where
+  pub width : IdWidth (F .width)
+  pub names : F .names ≤ 256
+  pub arguments : F .args ≤ 256
+  pub heads : 512 ≤ length hs
+  pub nums : 512 ≤ length ns
+  pub made : F .names + c .k + 256 * n < 65535
+  pub total : c .total ≤ c .k
+  pub reads : at .p + longest-block * n < places-end
+  pub writes : at .q + longest-block-lines * n < places-end
+  pub passing : BlocksPass (F .names) (blocks-in (F .width) s (at .p) n)
 
 -- ---- a block as it is written
 abbrev pub block-as : ℕ → Numbered → Block Instr
 block-as N b = record { saves = count-saves N (b .body); body = b .body }
 
--- ty: the type of a name
-abbrev pub numbered-in : ℕ → ℕ → ℕ → List ℕ → (NameIx → ℕ) → Places → Numbered
-numbered-in w N args s ty a = block-lvn N ty (start args (a .k)) (block-in w s (a .p) .body)
+-- the block at p, numbered with K from k on; ty: the type of a name
+abbrev pub numbered-in : Frame → List ℕ → (NameIx → ℕ) → ℕ → ℕ → Numbered
+numbered-in F s ty p k = block-lvn (F .names) ty (start (F .args) k) (block-in (F .width) s p .body)
 
--- one block done; made: the table of what each K saved
+-- one block done: r is the place behind it, and c′ the count there; made: the table of what each K saved
 pub record BlockDone
-    (w N args : ℕ) (s : List ℕ) (ty : NameIx → ℕ) (a r : Places) (made made′ out out′ : List ℕ) : Type 0 where
-  pub written : Wrote out out′ (a .q) (r .q) (block-bytes w (block-as N (numbered-in w N args s ty a)))
-  pub noted : Wrote made made′ (a .k) (r .k) (indexes (saved-in N (numbered-in w N args s ty a .body)))
-  pub temps : r .k ≡ numbered-in w N args s ty a .temps
-  pub next : r .p ≡ block-end w s (a .p)
-  pub near : r .p ≤ a .p + longest-block
-  pub close : r .q ≤ a .q + longest-block-lines
-  pub few : r .k ≤ a .k + 256
+    (F : Frame) (s : List ℕ) (ty : NameIx → ℕ) (at : Spot) (c : SaveCount) (r : Spot) (c′ : SaveCount) (made made′ out out′ : List ℕ)
+    : Type 0 where
+  pub written :
+      Wrote out out′ (at .q) (r .q) (block-bytes (F .width) (block-as (F .names) (numbered-in F s ty (at .p) (c .k))))
+  pub noted : Wrote made made′ (c .k) (c′ .k) (indexes (saved-in (F .names) (numbered-in F s ty (at .p) (c .k) .body)))
+  pub temps : c′ .k ≡ numbered-in F s ty (at .p) (c .k) .temps
+  pub total : c′ .total ≡ c .total + count-saves (F .names) (numbered-in F s ty (at .p) (c .k) .body)
+  pub next : r .p ≡ block-end (F .width) s (at .p)
+  pub near : r .p ≤ at .p + longest-block
+  pub close : r .q ≤ at .q + longest-block-lines
+  pub few : c′ .k ≤ c .k + 256
 
--- n blocks done, of a function f
-pub record BlocksDone (w : ℕ) (f : Function) (s : List ℕ) (a r : Places) (n : ℕ) (made made′ out out′ : List ℕ) : Type 0 where
-  pub written : Wrote out out′ (a .q) (r .q) (join (map (block-bytes w) (blocks-lvn f (a .k) (blocks-in w s (a .p) n))))
-  pub noted : Wrote made made′ (a .k) (r .k) (indexes (made-from (names-of f) (blocks-lvn f (a .k) (blocks-in w s (a .p) n))))
-  pub next : r .p ≡ blocks-behind w s (a .p) n
-  pub close : r .q ≤ a .q + longest-block-lines * n
-  pub few : r .k ≤ a .k + 256 * n
+-- n blocks done, of a function f, K from 0 on; w: the bytes of an id
+pub record BlocksDone (w : ℕ) (f : Function) (s : List ℕ) (at : Spot) (r : Behind) (n : ℕ) (made made′ out out′ : List ℕ) : Type 0 where
+  pub written : Wrote out out′ (at .q) (r .at .q) (join (map (block-bytes w) (blocks-lvn f 0 (blocks-in w s (at .p) n))))
+  pub noted :
+      Wrote made made′ 0 (r .count .total) (indexes (made-from (names-of f) (blocks-lvn f 0 (blocks-in w s (at .p) n))))
+  pub close : r .at .q ≤ at .q + longest-block-lines * n

@@ -1,3 +1,2 @@
 pub mod Block
 pub mod Blocks
-pub mod Counted

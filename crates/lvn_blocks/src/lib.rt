@@ -7,15 +7,11 @@ ghost use lib.ListN.{length};
 ghost use Rattle.record.specs.Record.{Instr, Block, type-in};
 ghost use Rattle.record.specs.Write.{be};
 ghost use Rattle.record.specs.View.{instr-of};
-ghost use Rattle.record.specs.Decode.{instr-from};
-ghost use Rattle.record.specs.Again.{Passes, block-in, blocks-in, BlocksPass};
 ghost use Rattle.record.specs.Sizes.{longest-instr, longest-lines, places-end};
 ghost use Rattle.write_bytes.specs.Put.{put, Wrote, IdWidth};
 ghost use Rattle.lvn_state.specs.View.{state-of, saves-of};
-ghost use Rattle.lvn_state.specs.Room.{Maps};
-ghost use Rattle.lvn_blocks.specs.Block.{save-before, body-bytes, saved-by, Fit, Tables, Asks, Turned, Done};
+ghost use Rattle.lvn_blocks.specs.Block.{save-before, body-bytes, saved-by, Asks, Turned, Done};
 ghost use Rattle.lvn_blocks.specs.Blocks.{BlocksAsk, BlockDone, BlocksDone};
-ghost use Rattle.lvn_blocks.specs.Counted.{CountAsk, CountDone};
 use arith::One;
 use lvn_state::LvnState;
 use record::Instruction;
@@ -77,14 +73,27 @@ pub fn note_save(names: &mut [u16], k: u16, i: Instruction, made: NameIx)
     }
 }
 
-// The state, the place in the input and the place in the output.
-pub struct Turn {
-    pub st: LvnState,
+// What the head of a record says: the bytes of an id, and how many names, arguments and blocks there are.
+pub struct Frame {
+    pub width: usize,
+    pub names: u16,
+    pub args: u16,
+    pub blocks: usize,
+}
+
+// A place in the input, and the place in the output.
+pub struct Spot {
     pub p: usize,
     pub q: usize,
 }
 
-// One instruction of a block. n: how many names the input has; w: the bytes of an id; names: what each K saved.
+// The state, and where it stands.
+pub struct Turn {
+    pub st: LvnState,
+    pub at: Spot,
+}
+
+// One instruction of a block; names: what each K saved.
 pub fn turn_once(
     s: &[u8],
     types: &[u8],
@@ -94,33 +103,29 @@ pub fn turn_once(
     nums: &mut [u64],
     names: &mut [u16],
     out: &mut [u8],
-    w: usize,
-    n: u16,
+    frame: Frame,
     t: Turn,
 ) -> Turn
-    requires { ⌜
-        Fit n (state-of (now env) (now homes) (t .st) [] []) (t .p) (t .q) 1 ×
-        (IdWidth w × (Maps (now env) (now homes) × (Tables (now heads) (now nums) × Passes n (instr-from w (now s) (t .p))))) ⌝ }
+    requires { ⌜ Asks frame (now s) (now env) (now homes) t 1 (now heads) (now nums) ⌝ }
     ensures { λ r. ⌜
-        Turned w n (now (s .entry)) (type-in (now (types .entry))) t r
+        Turned frame (now (s .entry)) (type-in (now (types .entry))) t r
         (state-of (now (env .entry)) (now (homes .entry)) (t .st) (now (heads .entry)) (now (nums .entry)))
         (state-of (now (env .exit)) (now (homes .exit)) (r .st) (now (heads .exit)) (now (nums .exit)))
         (now (names .entry)) (now (names .exit)) (now (out .entry)) (now (out .exit)) ⌝ }
 {
     let st = t.st;
     let k = st.made;
-    let g = read_instrs::read_instr(s, t.p, w);
+    let g = read_instrs::read_instr(s, t.at.p, frame.width);
     let i = g.instr;
-    let e = lvn_instr::instr_lvn(st, env, homes, heads, nums, n, types, i);
+    let e = lvn_instr::instr_lvn(st, env, homes, heads, nums, frame.names, types, i);
     let made = e.made;
     let j = e.instr;
     note_save(names, k, j, made);
-    let q = put_lines(out, t.q, w, j, made);
+    let q = put_lines(out, t.at.q, frame.width, j, made);
     let after = e.state;
     Turn {
         st: after,
-        p: g.next,
-        q: q,
+        at: Spot { p: g.next, q: q },
     }
 }
 
@@ -134,21 +139,20 @@ pub fn body_lvn(
     nums: &mut [u64],
     names: &mut [u16],
     out: &mut [u8],
-    w: usize,
-    n: u16,
+    frame: Frame,
     t0: Turn,
     count: usize,
 ) -> Turn
-    requires { ⌜ Asks w n (now s) (now env) (now homes) t0 count (now heads) (now nums) ⌝ }
+    requires { ⌜ Asks frame (now s) (now env) (now homes) t0 count (now heads) (now nums) ⌝ }
     ensures { λ r. ⌜
-        Done w n (now (s .entry)) (type-in (now (types .entry))) t0 r
+        Done frame (now (s .entry)) (type-in (now (types .entry))) t0 r
         (state-of (now (env .entry)) (now (homes .entry)) (t0 .st) (now (heads .entry)) (now (nums .entry))) count
         (now (names .entry)) (now (names .exit)) (now (out .entry)) (now (out .exit)) ⌝ }
 {
     let mut t = t0;
     let mut left = count;
     while left > 0 {
-        t = turn_once(s, types, env, homes, heads, nums, names, out, w, n, t);
+        t = turn_once(s, types, env, homes, heads, nums, names, out, frame, t);
         left -= 1;
     }
     t
@@ -157,7 +161,7 @@ pub fn body_lvn(
 // ---- blocks
 
 // The head of a block: how many instructions it has, and how many of them are saves.
-pub fn put_head(out: &mut [u8], at: usize, n: u16, saves: u16)
+pub fn put_block_head(out: &mut [u8], at: usize, n: u16, saves: u16)
     requires { ⌜ at < places-end ⌝ }
     ensures { λ _. ⌜ now (out .exit) ≡ put (now (out .entry)) at (be 2 n ++ be 2 saves) ⌝ }
 {
@@ -165,35 +169,39 @@ pub fn put_head(out: &mut [u8], at: usize, n: u16, saves: u16)
     write_bytes::put_u16(out, at + 2, saves);
 }
 
-// The place in the input, the place in the output, and K.
-pub struct Places {
-    pub p: usize,
-    pub q: usize,
+// K, which runs on from block to block, and the saves of all blocks so far.
+pub struct SaveCount {
     pub k: u16,
+    pub total: u16,
 }
 
-// One block: its instructions, then, before them, its head. args: how many arguments the function has.
+// The place behind a block, and the count there.
+pub struct Behind {
+    pub at: Spot,
+    pub count: SaveCount,
+}
+
+// One block, the count by value: its instructions, then, before them, its head; the total grows by its saves.
 pub fn block_lvn(
+    c: SaveCount,
     s: &[u8],
     types: &[u8],
     heads: &mut [u64],
     nums: &mut [u64],
     names: &mut [u16],
     out: &mut [u8],
-    w: usize,
-    n: u16,
-    args: u16,
-    a: Places,
-) -> Places
-    requires { ⌜ BlocksAsk w n args a 1 (now heads) (now nums) × BlocksPass n (block-in w (now s) (a .p) ∷ []) ⌝ }
+    frame: Frame,
+    at: Spot,
+) -> Behind
+    requires { ⌜ BlocksAsk frame (now s) at c 1 (now heads) (now nums) ⌝ }
     ensures { λ r. ⌜
-        BlockDone w n args (now (s .entry)) (type-in (now (types .entry))) a r
+        BlockDone frame (now (s .entry)) (type-in (now (types .entry))) at c (r .at) (r .count)
         (now (names .entry)) (now (names .exit)) (now (out .entry)) (now (out .exit)) ⌝ }
 {
-    let count = read_fields::be16(s, a.p) as usize;
+    let count = read_fields::be16(s, at.p) as usize;
     let mut env = [65535u16; 256];
     let mut homes = [65535u16; 512];
-    let st = lvn_state::start(&mut env, &mut homes, heads, args, a.k);
+    let st = lvn_state::start(&mut env, &mut homes, heads, frame.args, c.k);
     let t = body_lvn(
         s,
         types,
@@ -203,75 +211,25 @@ pub fn block_lvn(
         nums,
         names,
         out,
-        w,
-        n,
+        frame,
         Turn {
             st: st,
-            p: a.p + 4,
-            q: a.q + 4,
+            at: Spot {
+                p: at.p + 4,
+                q: at.q + 4,
+            },
         },
         count,
     );
     let end = t.st;
-    let saves = end.made - a.k;
-    put_head(out, a.q, count as u16 + saves, saves);
-    Places {
-        p: t.p,
-        q: t.q,
-        k: end.made,
-    }
-}
-
-// ---- the count of saves, lent to each block
-
-// K, which runs on from block to block, and the saves of all blocks so far.
-pub struct SaveCount {
-    pub k: u16,
-    pub total: u16,
-}
-
-// Where a block stands in the input, and where in the output.
-pub struct Spot {
-    pub p: usize,
-    pub q: usize,
-}
-
-// The place behind a block, and the count there.
-pub struct Behind {
-    pub at: Spot,
-    pub count: SaveCount,
-}
-
-// One block, the count by value: the total grows by the saves of the block.
-pub fn block_counted(
-    c: SaveCount,
-    s: &[u8],
-    types: &[u8],
-    heads: &mut [u64],
-    nums: &mut [u64],
-    names: &mut [u16],
-    out: &mut [u8],
-    w: usize,
-    n: u16,
-    args: u16,
-    at: Spot,
-) -> Behind
-    requires { ⌜ CountAsk w n args (now s) at c (now heads) (now nums) ⌝ }
-    ensures { λ r. ⌜
-        CountDone w n args (now (s .entry)) (type-in (now (types .entry))) at c (r .at) (r .count)
-        (now (names .entry)) (now (names .exit)) (now (out .entry)) (now (out .exit)) ⌝ }
-{
-    let a = Places {
-        p: at.p,
-        q: at.q,
-        k: c.k,
-    };
-    let r = block_lvn(s, types, heads, nums, names, out, w, n, args, a);
+    let behind = t.at;
+    let saves = end.made - c.k;
+    put_block_head(out, at.q, count as u16 + saves, saves);
     Behind {
-        at: Spot { p: r.p, q: r.q },
+        at: behind,
         count: SaveCount {
-            k: r.k,
-            total: c.total + (r.k - c.k),
+            k: end.made,
+            total: c.total + saves,
         },
     }
 }
@@ -285,17 +243,15 @@ pub fn block_lent(
     nums: &mut [u64],
     names: &mut [u16],
     out: &mut [u8],
-    w: usize,
-    n: u16,
-    args: u16,
+    frame: Frame,
     at: Spot,
 ) -> Spot
-    requires { ⌜ CountAsk w n args (now s) at (now count) (now heads) (now nums) ⌝ }
+    requires { ⌜ BlocksAsk frame (now s) at (now count) 1 (now heads) (now nums) ⌝ }
     ensures { λ r. ⌜
-        CountDone w n args (now (s .entry)) (type-in (now (types .entry))) at (now (count .entry)) r (now (count .exit))
+        BlockDone frame (now (s .entry)) (type-in (now (types .entry))) at (now (count .entry)) r (now (count .exit))
         (now (names .entry)) (now (names .exit)) (now (out .entry)) (now (out .exit)) ⌝ }
 {
-    let b = block_counted(*count, s, types, heads, nums, names, out, w, n, args, at);
+    let b = block_lvn(*count, s, types, heads, nums, names, out, frame, at);
     *count = b.count;
     b.at
 }
@@ -309,37 +265,23 @@ pub fn block_after(
     nums: &mut [u64],
     names: &mut [u16],
     out: &mut [u8],
-    w: usize,
-    n: u16,
-    args: u16,
+    frame: Frame,
     at: Spot,
 ) -> Behind
-    requires { ⌜ CountAsk w n args (now s) at c (now heads) (now nums) ⌝ }
+    requires { ⌜ BlocksAsk frame (now s) at c 1 (now heads) (now nums) ⌝ }
     ensures { λ r. ⌜
-        CountDone w n args (now (s .entry)) (type-in (now (types .entry))) at c (r .at) (r .count)
+        BlockDone frame (now (s .entry)) (type-in (now (types .entry))) at c (r .at) (r .count)
         (now (names .entry)) (now (names .exit)) (now (out .entry)) (now (out .exit)) ⌝ }
 {
     let mut count = c;
-    let next = block_lent(
-        &mut count,
-        s,
-        types,
-        heads,
-        nums,
-        names,
-        out,
-        w,
-        n,
-        args,
-        at,
-    );
+    let next = block_lent(&mut count, s, types, heads, nums, names, out, frame, at);
     Behind {
         at: next,
         count: count,
     }
 }
 
-// So many blocks, from where a0 stands; types: the types of the names.
+// All blocks, from a place on; types: the types of the names.
 pub fn blocks_lvn(
     s: &[u8],
     types: &[u8],
@@ -347,32 +289,25 @@ pub fn blocks_lvn(
     nums: &mut [u64],
     names: &mut [u16],
     out: &mut [u8],
-    w: usize,
-    args: u16,
-    a0: Places,
-    count: usize,
-) -> Places
+    frame: Frame,
+    at0: Spot,
+) -> Behind
     requires { ⌜
-        BlocksAsk w (length (now types)) args a0 count (now heads) (now nums) ×
-        BlocksPass (length (now types)) (blocks-in w (now s) (a0 .p) count) ⌝ }
+        (frame .names ≡ length (now types)) ×
+        BlocksAsk frame (now s) at0 (record { k = 0; total = 0 }) (frame .blocks) (now heads) (now nums) ⌝ }
     ensures { λ r. ⌜
         ((bs : List (Block Instr)) →
-        BlocksDone w (record { args = args; types = now (types .entry); blocks = bs }) (now (s .entry)) a0 r count
-        (now (names .entry)) (now (names .exit)) (now (out .entry)) (now (out .exit))) ⌝ }
+        BlocksDone (frame .width) (record { args = frame .args; types = now (types .entry); blocks = bs }) (now (s .entry)) at0 r
+        (frame .blocks) (now (names .entry)) (now (names .exit)) (now (out .entry)) (now (out .exit))) ⌝ }
 {
-    let n = types.len() as u16;
-    let mut at = Spot { p: a0.p, q: a0.q };
-    let mut c = SaveCount { k: a0.k, total: 0 };
-    let mut left = count;
+    let mut at = at0;
+    let mut c = SaveCount { k: 0, total: 0 };
+    let mut left = frame.blocks;
     while left > 0 {
-        let b = block_after(c, s, types, heads, nums, names, out, w, n, args, at);
+        let b = block_after(c, s, types, heads, nums, names, out, frame, at);
         at = b.at;
         c = b.count;
         left -= 1;
     }
-    Places {
-        p: at.p,
-        q: at.q,
-        k: a0.k + c.total,
-    }
+    Behind { at: at, count: c }
 }

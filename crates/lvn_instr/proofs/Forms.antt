@@ -17,17 +17,15 @@ use Rattle.numbering.specs.Number.{reads}
 use Rattle.codes.specs.Op.{form-as}
 use Rattle.codes.proofs.Op.{form-op}
 use Rattle.lvn_state.specs.View.{names-in}
-use Rattle.lvn_state.specs.Room.{Low}
 use Rattle.lvn_instr.specs.View.{Ready}
 
 -- ---- arguments
 arg-at :
-    (k n : ℕ) (l : List ℕ) → k < length (names-in n l) → Low (names-in n l) →
-    (getD (names-in n l) k (nm 0) ≡ nm (getD l k 0)) × (getD l k 0 < 256)
-arg-at k zero l h b = absurd (omega arith)
-arg-at k (suc n) [] h b = absurd (omega arith)
-arg-at zero (suc n) (x ∷ l) h b = (refl, b .0)
-arg-at (suc k) (suc n) (x ∷ l) h b = arg-at k n l (omega arith) (b .1)
+    (k n : ℕ) (l : List ℕ) → k < length (names-in n l) → getD (names-in n l) k (nm 0) ≡ nm (getD l k 0)
+arg-at k zero l h = absurd (omega arith)
+arg-at k (suc n) [] h = absurd (omega arith)
+arg-at zero (suc n) (x ∷ l) h = refl
+arg-at (suc k) (suc n) (x ∷ l) h = arg-at k n l (omega arith)
 
 module _ (i : Instruction) (ready : Ready i) where
   pub instr-form : (t : NameIx → ℕ) (o : Op) → i .op ≡ o → form t (instr-of i) ≡ form-as o t (instr-of i)
@@ -39,17 +37,13 @@ module _ (i : Instruction) (ready : Ready i) where
 
   op-reads : (o : Op) → i .op ≡ o → reads (form-as o untyped (instr-of i)) ≡ names-in (i .count) (i .args)
   unfolding instr-of
-  op-reads o e = sym (ap reads (instr-form untyped o e)) ∙ ready .fit .reading untyped
-
-  pub low-args : Low (names-in (i .count) (i .args))
-  unfolding instr-of
-  low-args = ready .fit .low
+  op-reads o e = sym (ap reads (instr-form untyped o e)) ∙ ready .reading untyped
 
   pub one-arg : (o : One) → i .op ≡ ops.One o → arg (instr-of i) 0 ≡ nm (getD (i .args) 0 0)
   unfolding instr-of reads
   one-arg o e =
       let l : 1 ≡ length (names-in (i .count) (i .args)) = ap length (op-reads (ops.One o) e) in
-      arg-at 0 (i .count) (i .args) (omega arith) low-args .0
+      arg-at 0 (i .count) (i .args) (omega arith)
 
   pub two-args :
       (o : Two) → i .op ≡ ops.Two o →
@@ -57,4 +51,4 @@ module _ (i : Instruction) (ready : Ready i) where
   unfolding instr-of reads
   two-args o e =
       let l : 2 ≡ length (names-in (i .count) (i .args)) = ap length (op-reads (ops.Two o) e) in
-      (arg-at 0 (i .count) (i .args) (omega arith) low-args .0, arg-at 1 (i .count) (i .args) (omega arith) low-args .0)
+      (arg-at 0 (i .count) (i .args) (omega arith), arg-at 1 (i .count) (i .args) (omega arith))

@@ -7,6 +7,7 @@ use mathlib.Core.Bool.{Bool, false, cond}
 use mathlib.Core.Option.{Option, none, some}
 use native.Mathlib.Omega.{arith}
 use lib.Dec.{eqb}
+use lib.ListN.{length}
 use types.Run.{OneOf, miss}
 use denote.Enum.Declared.{tagOf}
 use Rattle.arith.specs.declared.One.{One}
@@ -154,17 +155,17 @@ settled-next s x (some e) = settled-at-next s x e (get-val-num s e)
 
 -- seeing arguments asks for no more room
 pub seen-next :
-    (env homes : List ℕ) (s : LvnState) (hs ns : List ℕ) (xs : List NameIx) (t : State) →
+    (m : ℕ) (env homes : List ℕ) (s : LvnState) (hs ns : List ℕ) (xs : List NameIx) (t : State) →
     t ≡ gen-new-vals (state-of env homes s hs ns) xs →
-    Low xs →
-    room (state-of env homes s [] []) ≤ 511 →
-    t .next ≤ 511
-seen-next env homes s hs ns xs t e low h =
+    Low m xs →
+    room m (state-of env homes s [] []) < length homes →
+    t .next < length homes
+seen-next m env homes s hs ns xs t e low h =
     let g = gen-new-vals (state-of env homes s hs ns) xs in
     let n : t .next ≡ g .next = ap (λ (u : State). u .next) e in
-    let a : g .next ≤ room g = next-room g in
-    let b : room g ≡ room (state-of env homes s hs ns) = gen-room (state-of env homes s hs ns) xs low in
-    let c : room (state-of env homes s hs ns) ≡ room (state-of env homes s [] []) = room-of env homes s hs ns [] [] in
+    let a : g .next ≤ room m g = next-room m g in
+    let b : room m g ≡ room m (state-of env homes s hs ns) = gen-room m (state-of env homes s hs ns) xs low in
+    let c : room m (state-of env homes s hs ns) ≡ room m (state-of env homes s [] []) = room-of m env homes s hs ns [] [] in
     omega arith
 
 pub seen-temps : (s : State) (xs : List NameIx) (t : State) → t ≡ gen-new-vals s xs → t .temps ≡ s .temps
@@ -215,7 +216,7 @@ module _
   instr-by-op a b c =
       let f = form t (instr-of i) in
       let g : f ≡ form-as (i .op) t (instr-of i) = instr-form i ready t (i .op) refl in
-      let xs : instr-of i .args ≡ reads f = sym (ready .fit .reading t) in
+      let xs : instr-of i .args ≡ reads f = sym (ready .reading t) in
       ap (by-op N seen j (i .op)) (c ∙ ap (value-by seen) g) ∙ by-op-form N seen j (instr-of i) t (i .op) ∙
       ap (by-form N seen j) (sym g) ∙
       ap (λ (k : Instr). by-form N seen k f) (b ∙ ap (λ (ys : List NameIx). rewrite-instr seen ys (instr-of i)) xs) ∙

@@ -1,9 +1,10 @@
 -- What the code of one instruction speaks of: instructions by their operation, and its answers as those of the definitions.
-use Prim.Native.Nat.{ℕ, _<_, _≤_}
+use Prim.Native.Nat.{ℕ, _+_, _<_, _≤_}
 use mathlib.Core.Path.{_≡_}
 use mathlib.Core.Bool.{Bool, true, false, cond}
 use mathlib.Core.List.{List}
 use mathlib.Core.Option.{Option, none, some}
+use lib.ListN.{length}
 use Rattle.arith.specs.Value.{Val}
 use Rattle.arith.specs.Operation.{Expr}
 use Rattle.record.specs.declared.NameIx.{NameIx}
@@ -14,26 +15,29 @@ use Rattle.record.specs.Record.{Instr}
 use Rattle.record.specs.Form.{Form, pure, new, effect, return, nop, jump, branch, form}
 use Rattle.record.specs.View.{code-of, instr-of}
 use Rattle.numbering.specs.declared.ValNum.{ValNum}
+use Rattle.numbering.specs.declared.Value.{Value}
 use Rattle.numbering.specs.State.{State, known}
 use Rattle.numbering.specs.Number.{reads, make-val, make-id-instr, val-to-instr, Emitted as EmittedAs, unchanged, place}
+use Rattle.numbering.specs.View.{expr-of}
+use Rattle.numbering.proofs.Simplified.{MaybeOk}
 use Rattle.codes.specs.Op.{op-of}
 use Rattle.lvn_values.specs.Table.{vals-of}
+use Rattle.lvn_state.specs.declared.LvnState.{LvnState}
 use Rattle.lvn_state.specs.View.{env-of, state-of, saves-of}
-use Rattle.lvn_state.specs.Room.{Low}
+use Rattle.lvn_state.specs.Room.{Low, Tables}
 use Rattle.lvn_instr.specs.declared.Emitted.{Emitted}
 
 -- ---- what is asked of an instruction
--- its names are names of a record, and it reads its arguments
-pub record Fit (i : Instr) : Type 0 where
-  pub low : Low (i .args)
-  pub dest : i .dest .0 < 256
-  pub reading : (t : NameIx → ℕ) → reads (form t i) ≡ i .args
-
--- and its operation is that of its code
+-- its operation is that of its code, and it reads its arguments
 pub record Ready (i : Instruction) : Type 0 where
   pub few : i .count ≤ 8
   pub coded : op-of (code-of (i .op)) ≡ i .op
-  pub fit : Fit (instr-of i)
+  pub reading : (t : NameIx → ℕ) → reads (form t (instr-of i)) ≡ instr-of i .args
+
+-- its names are below m
+pub record Named (m : ℕ) (i : Instr) : Type 0 where
+  pub low : Low m (i .args)
+  pub dest : i .dest .0 < m
 
 -- ---- by the operation
 -- the value expression of an instruction, none where it is new each time or there is no value
@@ -53,6 +57,15 @@ Reads s env hs ns count = (s .env ≡ env-of env) × (s .vals ≡ vals-of hs ns 
 -- no constant is refused
 abbrev pub Any : Val → Type 0
 Any v = Unit {0}
+
+-- what is asked where i, whose value is v, is placed: that dest, the next number and the next made name have room
+pub record Placeable (env homes : List ℕ) (st : LvnState) (hs ns : List ℕ) (n : ℕ) (i : Instruction) (v : Value) : Type 0 where
+  pub few : i .count ≤ 8
+  pub dest : i .dest .0 < length env
+  pub number : st .count < length homes
+  pub made : n + st .made < 65535
+  pub tables : Tables env homes hs ns
+  pub operand : MaybeOk Any 65535 (expr-of v)
 
 -- ---- what is written
 -- the instruction of a value expression; one that is new each time stays

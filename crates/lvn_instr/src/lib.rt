@@ -18,8 +18,8 @@ ghost use Rattle.numbering.proofs.Simplified.{MaybeOk};
 ghost use Rattle.lvn_simplify.specs.View.{known-of};
 ghost use Rattle.lvn_values.specs.Table.{numbered-of, vals-of};
 ghost use Rattle.lvn_state.specs.View.{env-of, locs-of, state-of, names-in};
-ghost use Rattle.lvn_state.specs.Room.{room, Maps};
-ghost use Rattle.lvn_instr.specs.View.{Ready, Reads, has-dest, value-by, Any, written-as, chosen, by-op, emitted-of};
+ghost use Rattle.lvn_state.specs.Room.{room, Tables};
+ghost use Rattle.lvn_instr.specs.View.{Ready, Named, Placeable, Reads, has-dest, value-by, Any, written-as, chosen, by-op, emitted-of};
 use arith::One;
 use arith::Two;
 use lvn_simplify::Known;
@@ -316,9 +316,7 @@ pub fn place(
     i: Instruction,
     v: Value,
 ) -> Emitted
-    requires { ⌜
-        (i .count ≤ 8) × ((i .dest .0 < 256) × ((st .count < 512) × ((n + st .made < 65535) ×
-        (Maps (now env) (now homes) × ((512 ≤ length (now heads)) × ((512 ≤ length (now nums)) × MaybeOk Any 65535 (expr-of v))))))) ⌝ }
+    requires { ⌜ Placeable (now env) (now homes) st (now heads) (now nums) n i v ⌝ }
     ensures { λ r. ⌜
         (emitted-of (now (env .exit)) (now (homes .exit)) r (now (heads .exit)) (now (nums .exit)) ≡
         place n (state-of (now (env .entry)) (now (homes .entry)) st (now (heads .entry)) (now (nums .entry))) (instr-of i) (expr-of v)) ×
@@ -377,9 +375,7 @@ pub fn emit(
     i: Instruction,
     v: Value,
 ) -> Emitted
-    requires { ⌜
-        (i .count ≤ 8) × ((i .dest .0 < 256) × ((st .count < 512) × ((n + st .made < 65535) ×
-        (Maps (now env) (now homes) × ((512 ≤ length (now heads)) × ((512 ≤ length (now nums)) × MaybeOk Any 65535 (expr-of v))))))) ⌝ }
+    requires { ⌜ Placeable (now env) (now homes) st (now heads) (now nums) n i v ⌝ }
     ensures { λ r. ⌜
         (emitted-of (now (env .exit)) (now (homes .exit)) r (now (heads .exit)) (now (nums .exit)) ≡
         by-op n (state-of (now (env .entry)) (now (homes .entry)) st (now (heads .entry)) (now (nums .entry)))
@@ -416,8 +412,9 @@ pub fn instr_lvn(
     i: Instruction,
 ) -> Emitted
     requires { ⌜
-        Ready i × ((room (state-of (now env) (now homes) st [] []) ≤ 511) × ((n + st .made < 65535) ×
-        (Maps (now env) (now homes) × ((512 ≤ length (now heads)) × (512 ≤ length (now nums)))))) ⌝ }
+        Ready i × (Named (length (now env)) (instr-of i) ×
+        ((room (length (now env)) (state-of (now env) (now homes) st [] []) < length (now homes)) ×
+        ((n + st .made < 65535) × Tables (now env) (now homes) (now heads) (now nums)))) ⌝ }
     ensures { λ r. ⌜
         (emitted-of (now (env .exit)) (now (homes .exit)) r (now (heads .exit)) (now (nums .exit)) ≡
         instr-lvn n (type-in (now (types .entry)))

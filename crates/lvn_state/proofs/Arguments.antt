@@ -18,6 +18,7 @@ use Rattle.record.specs.Record.{nm, NameIx-discrete}
 use Rattle.numbering.specs.declared.ValNum.{ValNum}
 use Rattle.numbering.specs.State.{vn, State, ValNum-discrete, nobody, start-env, start, new-number}
 use Rattle.lvn_values.proofs.Search.{vals-past}
+use Rattle.lvn_state.specs.Room.{Clear}
 use Rattle.lvn_state.specs.View.{slot, env-of, locs-of, state-of}
 use Rattle.lvn_state.proofs.Steps.{clear-view}
 
@@ -31,14 +32,14 @@ none-below x a b = rw (le-ltb x 0 (omega arith))
 
 module _ (env homes hs ns : List ℕ) (k : ℕ) where
   pub none-numbered :
-      env ≡ replicate 256 65535 → homes ≡ replicate 512 65535 →
+      Clear env → Clear homes →
       state-of env homes (record { count = 0; made = k }) hs ns ≡ start 0 k
   unfolding start env-of locs-of
   none-numbered e h =
       (λ i. state-of (e i) (h i) (record { count = 0; made = k }) hs ns) ∙
       (λ i. record {
-        env = fun-ext (λ x. ap slot (same-all 256 (x .0) 65535) ∙ none-below (x .0) (some (vn (x .0))) none) i;
-        locs = fun-ext (λ v. ap nm (same-all 512 (v .0) 65535) ∙ none-below (v .0) (nm (v .0)) nobody) i;
+        env = fun-ext (λ x. ap slot (same-all (length env) (x .0) 65535) ∙ none-below (x .0) (some (vn (x .0))) none) i;
+        locs = fun-ext (λ v. ap nm (same-all (length homes) (v .0) 65535) ∙ none-below (v .0) (nm (v .0)) nobody) i;
         vals = fun-ext (λ v. vals-past hs ns 0 v (omega arith)) i;
         next = 0;
         temps = k;

@@ -43,7 +43,7 @@ found-below vals e (suc n) i v p = by (same-expr (vals (vn i)) (some e)) p (foun
 -- 65535 is no number: one that is found is below the next, and an id's is its operand
 pub number-stands :
     (s : State) (e : Option (Expr ValNum)) (v : ValNum) →
-    s .next ≤ 512 →
+    s .next ≤ 65535 →
     ((a : ValNum) → e ≡ some (one Id a) → a .0 ≢ 65535) →
     val-num-of s e ≡ some v →
     v .0 ≢ 65535

@@ -1,4 +1,4 @@
--- Room: seeing keeps it, an instruction takes at most one number more, and a block starts with 256.
+-- Room: seeing keeps it, an instruction takes at most one number more, and a block starts with one for each name.
 use Prim.Native.Nat.{ℕ, zero, suc, _+_, _<_, _≤_}
 use mathlib.Core.Path.{_≡_, refl, sym, ap, _∙_, subst}
 use mathlib.Core.List.{List, [], _∷_}
@@ -33,24 +33,35 @@ use Rattle.numbering.specs.Number.{
 }
 use Rattle.lvn_state.specs.declared.LvnState.{LvnState}
 use Rattle.lvn_state.specs.View.{state-of}
-use Rattle.lvn_state.specs.Room.{Low, free, room, Maps}
+use Rattle.lvn_state.specs.Room.{Low, free, room, Maps, Tables}
 use Rattle.lvn_state.proofs.Arguments.{start-more}
 
-pub next-room : (s : State) → s .next ≤ room s
+pub next-room : (m : ℕ) (s : State) → s .next ≤ room m s
 unfolding room
-next-room s = omega arith
+next-room m s = omega arith
 
--- maps that keep their lengths keep their places
+-- maps and tables that keep their lengths keep their places
 pub maps-kept :
     {env homes env′ homes′ : List ℕ} → length env′ ≡ length env → length homes′ ≡ length homes → Maps env homes → Maps env′ homes′
-maps-kept e h m = record { names = e ∙ m .names; numbers = h ∙ m .numbers }
+maps-kept e h m =
+    record { names = subst (λ n. n ≤ 65535) (sym e) (m .names); numbers = subst (λ n. n ≤ 65535) (sym h) (m .numbers) }
+
+pub tables-kept :
+    {env homes hs ns env′ homes′ hs′ ns′ : List ℕ} →
+    length env′ ≡ length env → length homes′ ≡ length homes → length hs′ ≡ length hs → length ns′ ≡ length ns →
+    Tables env homes hs ns →
+    Tables env′ homes′ hs′ ns′
+tables-kept e h a b t =
+    let k = t .heads in
+    let l = t .nums in
+    record { maps = maps-kept e h (t .maps); heads = omega (arith, h, a, k); nums = omega (arith, h, b, l) }
 
 -- the table takes no part
 pub room-of :
-    (env homes : List ℕ) (s : LvnState) (hs ns ks ms : List ℕ) →
-    room (state-of env homes s hs ns) ≡ room (state-of env homes s ks ms)
+    (m : ℕ) (env homes : List ℕ) (s : LvnState) (hs ns ks ms : List ℕ) →
+    room m (state-of env homes s hs ns) ≡ room m (state-of env homes s ks ms)
 unfolding room
-room-of env homes s hs ns ks ms = refl
+room-of m env homes s hs ns ks ms = refl
 
 module _ (f : NameIx → Option ValNum) (x : NameIx) (v : ValNum) where
   above : (m : ℕ) → m ≤ x .0 → free m (upd NameIx-discrete f x (some v)) ≡ free m f
@@ -99,105 +110,106 @@ module _ (f : NameIx → Option ValNum) (x : NameIx) (v : ValNum) where
 
 -- ---- seeing
 -- giving a number to a name that has none keeps the room
-unseen-room : (s : State) (x : NameIx) (e : Option (Expr ValNum)) → x .0 < 256 → s .env x ≡ none → room (new-number s x e) ≡ room s
+unseen-room :
+    (m : ℕ) (s : State) (x : NameIx) (e : Option (Expr ValNum)) → x .0 < m → s .env x ≡ none → room m (new-number s x e) ≡ room m s
 unfolding new-number room
-unseen-room s x e h n =
-    let k : suc (free 256 (upd NameIx-discrete (s .env) x (some (vn (s .next))))) ≡ free 256 (s .env) =
-    fewer (s .env) x (vn (s .next)) 256 h n in
+unseen-room m s x e h n =
+    let k : suc (free m (upd NameIx-discrete (s .env) x (some (vn (s .next))))) ≡ free m (s .env) =
+    fewer (s .env) x (vn (s .next)) m h n in
     omega arith
 
-pub see-room : (s : State) (x : NameIx) → x .0 < 256 → room (see s x) ≡ room s
+pub see-room : (m : ℕ) (s : State) (x : NameIx) → x .0 < m → room m (see s x) ≡ room m s
 unfolding see
-see-room s x h = by (s .env x) refl
+see-room m s x h = by (s .env x) refl
   where
-    by : (o : Option ValNum) → s .env x ≡ o → room (see-at s x o) ≡ room s
-    by none e = unseen-room s x none h e
+    by : (o : Option ValNum) → s .env x ≡ o → room m (see-at s x o) ≡ room m s
+    by none e = unseen-room m s x none h e
     by (some v) e = refl
 
-pub gen-room : (s : State) (xs : List NameIx) → Low xs → room (gen-new-vals s xs) ≡ room s
+pub gen-room : (m : ℕ) (s : State) (xs : List NameIx) → Low m xs → room m (gen-new-vals s xs) ≡ room m s
 unfolding gen-new-vals
-gen-room s [] h = refl
-gen-room s (x ∷ xs) h = gen-room (see s x) xs (h .1) ∙ see-room s x (h .0)
+gen-room m s [] h = refl
+gen-room m s (x ∷ xs) h = gen-room m (see s x) xs (h .1) ∙ see-room m s x (h .0)
 
 -- ---- a number is given or taken
-pub new-room : (s : State) (x : NameIx) (e : Option (Expr ValNum)) → room (new-number s x e) ≤ suc (room s)
+pub new-room : (m : ℕ) (s : State) (x : NameIx) (e : Option (Expr ValNum)) → room m (new-number s x e) ≤ suc (room m s)
 unfolding new-number room
-new-room s x e = let k = no-more (s .env) x (vn (s .next)) 256 in omega arith
+new-room m s x e = let k = no-more (s .env) x (vn (s .next)) m in omega arith
 
-pub take-room : (s : State) (x : NameIx) (v : ValNum) → room (update-env s x v) ≤ room s
+pub take-room : (m : ℕ) (s : State) (x : NameIx) (v : ValNum) → room m (update-env s x v) ≤ room m s
 unfolding update-env room
-take-room s x v = let k = no-more (s .env) x v 256 in omega arith
+take-room m s x v = let k = no-more (s .env) x v m in omega arith
 
 -- ---- a save
 -- a save keeps the numbers of the names and adds at most one made name
-pub record Saves (s t : State) : Type 0 where
+pub record Saves (m : ℕ) (s t : State) : Type 0 where
   pub next : t .next ≡ s .next
-  pub room : room t ≡ room s
+  pub room : room m t ≡ room m s
   pub temps : t .temps ≤ suc (s .temps)
 
-module _ (N : ℕ) (s : State) (i : Instr) where
-  none-saved : Saves s s
+module _ (m N : ℕ) (s : State) (i : Instr) where
+  none-saved : Saves m s s
   none-saved = record { next = refl; room = refl; temps = omega arith }
 
-  saved-at : (o : Option ValNum) → Saves s (save-at N s i o .state)
+  saved-at : (o : Option ValNum) → Saves m s (save-at N s i o .state)
   unfolding save-at save rehome room
   saved-at none = none-saved
   saved-at (some v) = by (NameIx-discrete (s .locs v) (i .dest))
     where
-      by : (d : Dec (s .locs v ≡ i .dest)) → Saves s (pick d (save N s i v) (no-save s) .state)
+      by : (d : Dec (s .locs v ≡ i .dest)) → Saves m s (pick d (save N s i v) (no-save s) .state)
       by (yes p) = record { next = refl; room = refl; temps = omega arith }
       by (no q) = none-saved
 
-  pub saved-room : (e : Option (Expr ValNum)) → Saves s (handle-overwrite N s i e .state)
+  pub saved-room : (e : Option (Expr ValNum)) → Saves m s (handle-overwrite N s i e .state)
   unfolding handle-overwrite
   saved-room none = saved-at (s .env (i .dest))
   saved-room (some (constant v)) = saved-at (s .env (i .dest))
   saved-room (some (one Not a)) = saved-at (s .env (i .dest))
   saved-room (some (one Id a)) = by (NameIx-discrete (s .locs a) (i .dest))
     where
-      by : (d : Dec (s .locs a ≡ i .dest)) → Saves s (pick d (no-save s) (save-at N s i (s .env (i .dest))) .state)
+      by : (d : Dec (s .locs a ≡ i .dest)) → Saves m s (pick d (no-save s) (save-at N s i (s .env (i .dest))) .state)
       by (yes p) = none-saved
       by (no q) = saved-at (s .env (i .dest))
   saved-room (some (two o a b)) = saved-at (s .env (i .dest))
 
 -- ---- one instruction
 -- it takes at most one number and one made name more
-pub record Grows (s t : State) : Type 0 where
-  pub room : room t ≤ suc (room s)
+pub record Grows (m : ℕ) (s t : State) : Type 0 where
+  pub room : room m t ≤ suc (room m s)
   pub temps : t .temps ≤ suc (s .temps)
 
-grows-new : (s t : State) → Saves s t → (x : NameIx) (e : Option (Expr ValNum)) → Grows s (new-number t x e)
+grows-new : (m : ℕ) (s t : State) → Saves m s t → (x : NameIx) (e : Option (Expr ValNum)) → Grows m s (new-number t x e)
 unfolding new-number
-grows-new s t h x e =
-    let k = new-room t x e in
-    record { room = subst (λ (n : ℕ). room (new-number t x e) ≤ suc n) (h .room) k; temps = h .temps }
+grows-new m s t h x e =
+    let k = new-room m t x e in
+    record { room = subst (λ (n : ℕ). room m (new-number t x e) ≤ suc n) (h .room) k; temps = h .temps }
 
-grows-take : (s t : State) → Saves s t → (x : NameIx) (v : ValNum) → Grows s (update-env t x v)
+grows-take : (m : ℕ) (s t : State) → Saves m s t → (x : NameIx) (v : ValNum) → Grows m s (update-env t x v)
 unfolding update-env
-grows-take s t h x v =
-    let k = take-room t x v in
+grows-take m s t h x v =
+    let k = take-room m t x v in
     let r = h .room in
     record { room = omega (arith, k, r); temps = h .temps }
 
-module _ (N : ℕ) (s : State) (i : Instr) where
+module _ (m N : ℕ) (s : State) (i : Instr) where
   numbered-grows :
-      (q : Saved) → Saves s (q .state) → (e : Expr ValNum) (written : Instr) (o : Option ValNum) →
-      Grows s (number-dest q i e written o .state)
+      (q : Saved) → Saves m s (q .state) → (e : Expr ValNum) (written : Instr) (o : Option ValNum) →
+      Grows m s (number-dest q i e written o .state)
   unfolding number-dest
-  numbered-grows q h e written none = grows-new s (q .state) h (i .dest) (some e)
-  numbered-grows q h e written (some v) = grows-take s (q .state) h (i .dest) v
+  numbered-grows q h e written none = grows-new m s (q .state) h (i .dest) (some e)
+  numbered-grows q h e written (some v) = grows-take m s (q .state) h (i .dest) v
 
-  pub place-grows : (e : Option (Expr ValNum)) → Grows s (place N s i e .state)
+  pub place-grows : (e : Option (Expr ValNum)) → Grows m s (place N s i e .state)
   unfolding place
-  place-grows none = grows-new s (handle-overwrite N s i none .state) (saved-room N s i none) (i .dest) none
+  place-grows none = grows-new m s (handle-overwrite N s i none .state) (saved-room m N s i none) (i .dest) none
   place-grows (some e) =
-      numbered-grows (handle-overwrite N s i (some e)) (saved-room N s i (some e)) e (val-to-instr s i e)
+      numbered-grows (handle-overwrite N s i (some e)) (saved-room m N s i (some e)) e (val-to-instr s i e)
       (get-val-num (handle-overwrite N s i (some e) .state) e)
 
-  same-grows : Grows s s
+  same-grows : Grows m s s
   same-grows = record { room = omega arith; temps = omega arith }
 
-  form-grows : (f : Form) → Grows s (by-form N s i f .state)
+  form-grows : (f : Form) → Grows m s (by-form N s i f .state)
   unfolding by-form
   form-grows (pure e) = place-grows (make-val s e)
   form-grows (new xs) = place-grows none
@@ -216,14 +228,15 @@ gen-temps s (x ∷ xs) = gen-temps (see s x) xs ∙ by (s .env x)
     by none = refl
     by (some v) = refl
 
-pub instr-grows : (N : ℕ) (t : NameIx → ℕ) (s : State) (i : Instr) → Low (reads (form t i)) → Grows s (instr-lvn N t s i .state)
+pub instr-grows :
+    (m N : ℕ) (t : NameIx → ℕ) (s : State) (i : Instr) → Low m (reads (form t i)) → Grows m s (instr-lvn N t s i .state)
 unfolding instr-lvn
-instr-grows N t s i low =
+instr-grows m N t s i low =
     let xs = reads (form t i) in
     let seen = gen-new-vals s xs in
-    let g = form-grows N seen (rewrite-instr seen xs i) (form t i) in
+    let g = form-grows m N seen (rewrite-instr seen xs i) (form t i) in
     record {
-      room = subst (λ (n : ℕ). room (instr-lvn N t s i .state) ≤ suc n) (gen-room s xs low) (g .room);
+      room = subst (λ (n : ℕ). room m (instr-lvn N t s i .state) ≤ suc n) (gen-room m s xs low) (g .room);
       temps = subst (λ (n : ℕ). instr-lvn N t s i .state .temps ≤ suc n) (gen-temps s xs) (g .temps);
     }
 
@@ -238,9 +251,9 @@ all-free (suc m) f h =
 none-below : (A : ℕ) (x : NameIx) → A ≤ x .0 → start-env A x ≡ none
 none-below A x h = rw (le-ltb (x .0) A h)
 
-pub start-room : (A k : ℕ) → A ≤ 256 → room (start A k) ≡ 256
+pub start-room : (m A k : ℕ) → A ≤ m → room m (start A k) ≡ m
 unfolding start room
-start-room zero k h = let e : free 256 (start-env 0) ≡ 256 = all-free 256 (start-env 0) (λ x. none-below 0 x (omega arith)) in omega arith
-start-room (suc A) k h =
-    sym (ap room (start-more A k)) ∙ unseen-room (start A k) (nm A) none (omega arith) (none-below A (nm A) (omega arith)) ∙
-    start-room A k (omega arith)
+start-room m zero k h = let e : free m (start-env 0) ≡ m = all-free m (start-env 0) (λ x. none-below 0 x (omega arith)) in omega arith
+start-room m (suc A) k h =
+    sym (ap (room m) (start-more A k)) ∙ unseen-room m (start A k) (nm A) none (omega arith) (none-below A (nm A) (omega arith)) ∙
+    start-room m A k (omega arith)

@@ -88,8 +88,8 @@ module _ (env homes : List ℕ) (s : LvnState) (n : ℕ) (x : NameIx) (hx : x .0
         sym (other hs ns i q ∙ save-away n (state-of env homes s hs ns) i v (ap (env-of env) q ∙ p) (λ r. h (r ∙ q)))
 
     -- no number, or one past the end, whose home is nobody
-    pub kept-past : 512 ≤ getD env (x .0) 0 → length homes ≡ 512 → x .0 < 65535 → Stays
-    kept-past l k b = by (ℕ-discrete (getD env (x .0) 0) 65535)
+    pub kept-past : length homes ≤ getD env (x .0) 0 → x .0 < 65535 → Stays
+    kept-past l b = by (ℕ-discrete (getD env (x .0) 0) 65535)
       where
         by : Dec (getD env (x .0) 0 ≡ 65535) → Stays
         by (yes p) =
@@ -101,7 +101,7 @@ module _ (env homes : List ℕ) (s : LvnState) (n : ℕ) (x : NameIx) (hx : x .0
             ap (λ (y : NameIx). y .0) (sym (locs-past homes (vn (getD env (x .0) 0)) (omega arith)) ∙ r) in
             omega arith)
 
-    module _ (l : getD env (x .0) 0 < 512) (k : length homes ≡ 512) where
+    module _ (l : getD env (x .0) 0 < length homes) (k : length homes ≤ 65535) where
       number : env-of env x ≡ some (vn (getD env (x .0) 0))
       number = env-some env x hx (getD env (x .0) 0) refl (λ p. omega arith)
 

@@ -25,11 +25,11 @@ module _ (l : List ℕ) (n i : ℕ) (h : i < n) (k : n ≤ length l) where
   rest-step : rest l n i ≡ nm (getD l i 0) ∷ rest l n (i + 1)
   rest-step = let d : drop i l ≡ getD l i 0 ∷ drop (suc i) l = drop-cons l i 0 (omega arith) in rw (left-step n i h, d, add-one i)
 
-  pub low-first : Low (rest l n i) → getD l i 0 < 256
-  low-first a = let p : Low (nm (getD l i 0) ∷ rest l n (i + 1)) = subst Low rest-step a in p .0
+  pub low-first : (m : ℕ) → Low m (rest l n i) → getD l i 0 < m
+  low-first m a = let p : Low m (nm (getD l i 0) ∷ rest l n (i + 1)) = subst (Low m) rest-step a in p .0
 
-  pub low-rest : Low (rest l n i) → Low (rest l n (i + 1))
-  low-rest a = let p : Low (nm (getD l i 0) ∷ rest l n (i + 1)) = subst Low rest-step a in p .1
+  pub low-rest : (m : ℕ) → Low m (rest l n i) → Low m (rest l n (i + 1))
+  low-rest m a = let p : Low m (nm (getD l i 0) ∷ rest l n (i + 1)) = subst (Low m) rest-step a in p .1
 
   pub seen-first : (s : State) → gen-new-vals (see s (nm (getD l i 0))) (rest l n (i + 1)) ≡ gen-new-vals s (rest l n i)
   unfolding gen-new-vals
@@ -42,10 +42,11 @@ seen-all s l n i h = let z : n - i ≡ 0 = omega arith in rw z
 -- the room of a state that has seen x
 module _ (env homes env′ homes′ : List ℕ) (s t : LvnState) (hs ks : List ℕ) (x : NameIx) where
   pub seen-room :
-      x .0 < 256 → state-of env′ homes′ t ks [] ≡ see (state-of env homes s hs []) x →
-      room (state-of env′ homes′ t [] []) ≡ room (state-of env homes s [] [])
-  seen-room h e =
-      room-of env′ homes′ t [] [] ks [] ∙ ap room e ∙ see-room (state-of env homes s hs []) x h ∙ room-of env homes s hs [] [] []
+      (m : ℕ) → x .0 < m → state-of env′ homes′ t ks [] ≡ see (state-of env homes s hs []) x →
+      room m (state-of env′ homes′ t [] []) ≡ room m (state-of env homes s [] [])
+  seen-room m h e =
+      room-of m env′ homes′ t [] [] ks [] ∙ ap (room m) e ∙ see-room m (state-of env homes s hs []) x h ∙
+      room-of m env homes s hs [] [] []
 
 -- ---- arguments replaced
 map-last : {X Y : Type 0} (f : X → Y) (l : List X) (x : X) → map f (l ++ (x ∷ [])) ≡ map f l ++ (f x ∷ [])

@@ -5,7 +5,7 @@ ghost use mathlib.Core.Logic.{_≢_};
 ghost use mathlib.Core.List.{List, []};
 ghost use mathlib.Core.Option.{some, Option·getD};
 ghost use Prim.Native.Nat.{ℕ, _+_, _<_, _≤_};
-ghost use lib.ListN.{length, replicate};
+ghost use lib.ListN.{length};
 ghost use Rattle.arith.specs.declared.One.the-variants.{Id};
 ghost use Rattle.arith.specs.Operation.{one};
 ghost use Rattle.record.specs.Record.{Instr};
@@ -15,7 +15,7 @@ ghost use Rattle.numbering.specs.Number.{handle-overwrite};
 ghost use Rattle.numbering.specs.View.{expr-of};
 ghost use Rattle.lvn_values.specs.Table.{numbered-of, val-num-of};
 ghost use Rattle.lvn_state.specs.View.{env-of, locs-of, state-of, names-in, saved-of, itself, settled};
-ghost use Rattle.lvn_state.specs.Room.{Low, room, Maps};
+ghost use Rattle.lvn_state.specs.Room.{Low, room, Clear, Maps, Tables};
 use arith::One;
 use lvn_values::Numbered;
 use numbering::ValNum;
@@ -45,7 +45,8 @@ pub struct Settled {
 // known of them.
 pub fn start(env: &mut [u16], homes: &mut [u16], heads: &mut [u64], args: u16, k: u16) -> LvnState
     requires { ⌜
-        (now env ≡ replicate 256 65535) × ((now homes ≡ replicate 512 65535) × ((args ≤ 256) × (512 ≤ length (now heads)))) ⌝ }
+        Clear (now env) × (Clear (now homes) ×
+        ((args ≤ length (now env)) × ((args ≤ length (now homes)) × (args ≤ length (now heads))))) ⌝ }
     ensures { λ r. ⌜ ((ns : List ℕ) → state-of (now (env .exit)) (now (homes .exit)) r (now (heads .exit)) ns ≡ start args k) ⌝ }
 {
     let mut i: u16 = 0;
@@ -100,8 +101,8 @@ impl LvnState {
         v: Value,
     ) -> Self
         requires { ⌜
-            (x .0 < 256) × ((self .count < 512) × (Maps (now env) (now homes) ×
-            ((512 ≤ length (now heads)) × (512 ≤ length (now nums))))) ⌝ }
+            (x .0 < length (now env)) × ((self .count < length (now homes)) ×
+            Tables (now env) (now homes) (now heads) (now nums)) ⌝ }
         ensures { λ r. ⌜
             state-of (now (env .exit)) (now (homes .exit)) r (now (heads .exit)) (now (nums .exit)) ≡
             new-number (state-of (now (env .entry)) (now (homes .entry)) self (now (heads .entry)) (now (nums .entry))) x (expr-of v) ⌝ }
@@ -133,7 +134,9 @@ impl LvnState {
 
     // An argument: where it has no number it gets the next one, of which nothing is known.
     pub fn see(self, env: &mut [u16], homes: &mut [u16], heads: &mut [u64], x: NameIx) -> Self
-        requires { ⌜ (x .0 < 256) × ((self .count < 512) × (Maps (now env) (now homes) × (512 ≤ length (now heads)))) ⌝ }
+        requires { ⌜
+            (x .0 < length (now env)) × ((self .count < length (now homes)) ×
+            (Maps (now env) (now homes) × (length (now homes) ≤ length (now heads)))) ⌝ }
         ensures { λ r. ⌜
             ((ns : List ℕ) →
             state-of (now (env .exit)) (now (homes .exit)) r (now (heads .exit)) ns ≡
@@ -163,8 +166,9 @@ impl LvnState {
         n: u8,
     ) -> Self
         requires { ⌜
-            (n ≤ 8) × (Low (names-in n args) × ((room (state-of (now env) (now homes) self [] []) ≤ 511) ×
-            (Maps (now env) (now homes) × (512 ≤ length (now heads))))) ⌝ }
+            (n ≤ 8) × (Low (length (now env)) (names-in n args) ×
+            ((room (length (now env)) (state-of (now env) (now homes) self [] []) < length (now homes)) ×
+            (Maps (now env) (now homes) × (length (now homes) ≤ length (now heads))))) ⌝ }
         ensures { λ r. ⌜
             ((ns : List ℕ) →
             state-of (now (env .exit)) (now (homes .exit)) r (now (heads .exit)) ns ≡
@@ -191,8 +195,8 @@ impl LvnState {
         v: Value,
     ) -> Settled
         requires { ⌜
-            (dest .0 < 256) × ((self .count < 512) × (Maps (now env) (now homes) ×
-            ((512 ≤ length (now heads)) × ((512 ≤ length (now nums)) × ((a : ValNum) → expr-of v ≡ some (one Id a) → a .0 ≢ 65535))))) ⌝ }
+            (dest .0 < length (now env)) × ((self .count < length (now homes)) ×
+            (Tables (now env) (now homes) (now heads) (now nums) × ((a : ValNum) → expr-of v ≡ some (one Id a) → a .0 ≢ 65535))) ⌝ }
         ensures { λ r. ⌜
             (numbered-of (r .number) ≡
             val-num-of (state-of (now (env .entry)) (now (homes .entry)) self (now (heads .entry)) (now (nums .entry))) (expr-of v)) ×
@@ -228,7 +232,7 @@ impl LvnState {
         dest: NameIx,
         v: Value,
     ) -> Saved
-        requires { ⌜ (dest .0 < 256) × ((n + self .made < 65535) × Maps (now env) (now homes)) ⌝ }
+        requires { ⌜ (dest .0 < length (now env)) × ((n + self .made < 65535) × Maps (now env) (now homes)) ⌝ }
         ensures { λ r. ⌜
             ((hs ns : List ℕ) (i : Instr) → i .dest ≡ dest →
             saved-of (now (env .entry)) (now (homes .exit)) r hs ns i ≡
@@ -237,8 +241,8 @@ impl LvnState {
         if !writes_home(homes, dest, v) {
             let d = dest.0 as usize;
             let num = env[d];
-            if num < 512 {
-                let k = num as usize;
+            let k = num as usize;
+            if k < homes.len() {
                 if homes[k] == dest.0 {
                     let made = NameIx(n + self.made);
                     homes[k] = made.0;

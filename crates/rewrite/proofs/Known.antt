@@ -23,7 +23,7 @@ use Rattle.write_bytes.proofs.Put.{put-first, length-put}
 use Rattle.write_bytes.proofs.Numbers.{id-width}
 use Rattle.write_names.specs.Named.{Named, Short}
 use Rattle.write_names.proofs.Copied.{names-copied, names-short}
-use Rattle.lvn_blocks.specs.declared.Places.{Places}
+use Rattle.lvn_blocks.specs.declared.Behind.{Behind}
 use Rattle.lvn_blocks.specs.Block.{indexes}
 use Rattle.lvn_blocks.specs.Blocks.{BlocksAsk, BlocksDone}
 use Rattle.lvn_blocks.proofs.Whole.{blocks-written, made-noted, made-many}
@@ -47,7 +47,7 @@ module _ {s : List ℕ} {end : ℕ} (h : Reads s end) where
       length-take-le (end - 8) (drop 8 s) (omega (arith, length-drop 8 s, h .names, names-lie h)) in
       omega (arith, e, f, l)
 
-  types-many : {types : List ℕ} → types ≡ types-in s → length types ≡ names-count s
+  pub types-many : {types : List ℕ} → types ≡ types-in s → length types ≡ names-count s
   types-many e = ap length e ∙ length-map (record-in s .names) (λ (x : Name). x .type) ∙ names-in s
 
   -- ---- numbering its blocks
@@ -56,7 +56,7 @@ module _ {s : List ℕ} {end : ℕ} (h : Reads s end) where
       blocks-again s ∙
       (λ i. blocks-in (sym e i) s (sym (h .names) i + 2) (sym (f ∙ ap (λ (k : ℕ). num-at s k 2) (h .names)) i))
 
-  pub blocks-pass :
+  blocks-pass :
       {types : List ℕ} (w count : ℕ) → types ≡ types-in s → w ≡ id-bytes (num-at s 4 1) → count ≡ num-at s end 2 →
       BlocksPass (length types) (blocks-in w s (end + 2) count)
   blocks-pass {types} w count t e f =
@@ -74,7 +74,8 @@ module _ {s : List ℕ} {end : ℕ} (h : Reads s end) where
       {types hs ns : List ℕ} (w args at count : ℕ) →
       types ≡ types-in s → w ≡ id-bytes (num-at s 4 1) → args ≡ num-at s 5 1 → count ≡ num-at s end 2 → at ≤ longest-front →
       512 ≤ length hs → 512 ≤ length ns →
-      BlocksAsk w (length types) args (record { p = end + 2; q = at; k = 0 }) count hs ns
+      BlocksAsk (record { width = w; names = length types; args = args; blocks = count }) s (record { p = end + 2; q = at })
+      (record { k = 0; total = 0 }) count hs ns
   blocks-ask w args at count t e a f b i j =
       let n : count ≤ 64 = omega (arith, f, few-blocks h) in
       let m : end ≤ longest-names = h .near in
@@ -82,45 +83,48 @@ module _ {s : List ℕ} {end : ℕ} (h : Reads s end) where
         width = subst IdWidth (sym e) (id-width (num-at s 4 1));
         names = omega (arith, types-many t, few-original h);
         arguments = omega (arith, a, few-args h);
-        made = omega arith;
+        made = omega (arith, n, types-many t, few-original h);
         reads = omega arith;
         writes = omega arith;
-        tables = record { heads = i; nums = j };
+        heads = i;
+        nums = j;
+        total = omega arith;
+        passing = blocks-pass w count t e f;
       }
 
   module _
-      {types names names′ out out′ : List ℕ} {r : Places} (w args at count : ℕ)
+      {types names names′ out out′ : List ℕ} {r : Behind} (w args at count : ℕ)
       (t : types ≡ types-in s)
       (e : w ≡ id-bytes (num-at s 4 1))
       (a : args ≡ num-at s 5 1)
       (f : count ≡ num-at s end 2)
       (done :
       (bs : List (Block Instr)) →
-      BlocksDone w (record { args = args; types = types; blocks = bs }) s (record { p = end + 2; q = at; k = 0 }) r count
+      BlocksDone w (record { args = args; types = types; blocks = bs }) s (record { p = end + 2; q = at }) r count
       names names′ out out′)
     where
-      exact : BlocksDone w (function (record-in s)) s (record { p = end + 2; q = at; k = 0 }) r count names names′ out out′
+      exact : BlocksDone w (function (record-in s)) s (record { p = end + 2; q = at }) r count names names′ out out′
       exact =
           let same : _≡_ {A = Function} (record { args = args; types = types; blocks = record-in s .blocks }) (function (record-in s)) =
           λ i. record { args = (a ∙ sym (args-in s)) i; types = t i; blocks = record-in s .blocks } in
           subst
-          (λ (g : Function). BlocksDone w g s (record { p = end + 2; q = at; k = 0 }) r count names names′ out out′) same
+          (λ (g : Function). BlocksDone w g s (record { p = end + 2; q = at }) r count names names′ out out′) same
           (done (record-in s .blocks))
 
-      pub blocks-put : Wrote out out′ at (r .q) (blocks-bytes (rewriting-in s))
+      pub blocks-put : Wrote out out′ at (r .at .q) (blocks-bytes (rewriting-in s))
       unfolding rewriting
       blocks-put =
-          subst (λ (k : ℕ). Wrote out out′ at (r .q) (join (map (block-bytes k) (lvn (function (record-in s)) .blocks))))
+          subst (λ (k : ℕ). Wrote out out′ at (r .at .q) (join (map (block-bytes k) (lvn (function (record-in s)) .blocks))))
           (e ∙ ap id-bytes (sym (version-in s)))
-          (blocks-written (record-in s) refl (blocks-at w count e f) exact)
+          (blocks-written (record-in s) (blocks-at w count e f) exact)
 
-      pub blocks-noted : 256 * num-at s end 2 ≤ length names → Noted s names′ (r .k)
+      pub blocks-noted : 256 * num-at s end 2 ≤ length names → Noted s names′ (r .count .total)
       blocks-noted room =
           let x = record-in s in
-          let many : r .k ≡ length (made x) = made-many x refl (blocks-at w count e f) exact in
+          let many : r .count .total ≡ length (made x) = made-many x (blocks-at w count e f) exact in
           let few : length (made x) ≤ length names = omega (arith, made-each, room) in
           let same : length (indexes (made x)) ≡ length (made x) = length-map (made x) (λ (y : NameIx). y .0) in
-          let noted : Wrote names names′ 0 (r .k) (indexes (made x)) = made-noted x refl (blocks-at w count e f) exact in
+          let noted : Wrote names names′ 0 (r .count .total) (indexes (made x)) = made-noted x (blocks-at w count e f) exact in
           let whole : names′ ≡ indexes (made x) ++ drop (length (indexes (made x))) names =
           noted .out ∙ put-first names (indexes (made x)) (omega (arith, same, few)) in
           record {

@@ -4,11 +4,13 @@ use mathlib.Core.List.{List, [], _∷_, map}
 use mathlib.Core.Path.{_≡_}
 use lib.ListN.{length, take}
 use Rattle.record.specs.Record.{Instr, Record, id-bytes}
-use Rattle.record.specs.Reader.{num-at}
+use Rattle.record.specs.Reader.{got, num-at}
 use Rattle.record.specs.Write.{be, join, name-bytes, block-bytes}
-use Rattle.record.specs.Decode.{names-count}
+use Rattle.record.specs.Decode.{names-count, record-from}
 use Rattle.record.specs.Again.{record-in, types-in, Reads}
 use Rattle.numbering.specs.Made.{made, rewriting}
+use Rattle.numbering.specs.Rewrite.{rewrite-result, rewrite-output}
+use Rattle.numbering.specs.declared.Rewritten.{Rewritten}
 use Rattle.write_names.specs.Named.{NamesAt}
 use Rattle.lvn_blocks.specs.Block.{indexes}
 
@@ -47,6 +49,11 @@ pub record Lent (s ts hs ns ms : List ℕ) (end : ℕ) : Type 0 where
   pub heads : 512 ≤ length hs
   pub nums : 512 ≤ length ns
   pub names : 256 * num-at s end 2 ≤ length ms
+
+-- the answer and what it leaves of an output are those of the record that stands in these bytes
+abbrev pub Answered : List ℕ → List ℕ → Rewritten → List ℕ → Type 0
+Answered s out r out′ =
+    (r ≡ rewrite-result (length out) (got (record-from s) 0)) × (out′ ≡ rewrite-output out (got (record-from s) 0))
 
 -- K counts the saves of the rewriting, and the table holds what each K saved
 pub record Noted (s names : List ℕ) (k : ℕ) : Type 0 where

@@ -1,26 +1,28 @@
 // Rewrite: a record is checked and its rewriting written. Where the output surely has room, the blocks are written once and then moved
 // behind the names that are made. Otherwise they are numbered twice: over an empty output, which gives the bytes needed and the made
 // names, then over the output.
-use lvn_blocks::Places;
+use lvn_blocks::Behind;
+use lvn_blocks::Frame;
+use lvn_blocks::Spot;
 use numbering::Rewritten;
 use record::Checked;
 ghost use mathlib.Core.Path.{_≡_};
 ghost use mathlib.Core.List.{_∷_};
 ghost use Prim.Native.Nat.{_+_, _*_, _≤_};
 ghost use lib.ListN.{length};
-ghost use Rattle.record.specs.Reader.{got, num-at};
+ghost use Rattle.record.specs.Reader.{num-at};
 ghost use Rattle.record.specs.Write.{be, join, bytes};
 ghost use Rattle.record.specs.Answer.{checked};
-ghost use Rattle.record.specs.Decode.{names-count, record-from};
+ghost use Rattle.record.specs.Decode.{names-count};
 ghost use Rattle.record.specs.declared.Checked.the-variants.{Accepted};
 ghost use Rattle.record.specs.Again.{record-in, Reads};
 ghost use Rattle.numbering.specs.Made.{made};
-ghost use Rattle.numbering.specs.Rewrite.{rewrite-result, rewrite-output, rewrite, rewrite-leaves};
+ghost use Rattle.numbering.specs.Rewrite.{rewrite, rewrite-leaves};
 ghost use Rattle.write_names.specs.Named.{NamesAt};
 ghost use Rattle.write_bytes.specs.Put.{put, Wrote};
-ghost use Rattle.rewrite.specs.Parts.{rewriting-in, front-parts, blocks-bytes, Lent, Typed, Noted, longest-front, longest-blocks, longest-rewriting};
+ghost use Rattle.rewrite.specs.Parts.{rewriting-in, front-parts, blocks-bytes, Lent, Typed, Noted, Answered, longest-front, longest-blocks, longest-rewriting};
 
-// The blocks of the rewriting, from a place on; the place behind them, and K. end: where the input's names end; names: what each K saved.
+// The blocks of the rewriting, from a place on; the place behind them, and the count of saves. end: where the input's names end; names: what each K saved.
 pub fn put_blocks(
     s: &[u8],
     types: &[u8],
@@ -30,21 +32,23 @@ pub fn put_blocks(
     out: &mut [u8],
     end: usize,
     at: usize,
-) -> Places
+) -> Behind
     requires { ⌜ Lent (now s) (now types) (now heads) (now nums) (now names) end × (at ≤ longest-front) ⌝ }
     ensures { λ r. ⌜
-        Wrote (now (out .entry)) (now (out .exit)) at (r .q) (blocks-bytes (rewriting-in (now (s .entry)))) ×
-        (Noted (now (s .entry)) (now (names .exit)) (r .k) × (r .q ≤ at + longest-blocks)) ⌝ }
+        Wrote (now (out .entry)) (now (out .exit)) at (r .at .q) (blocks-bytes (rewriting-in (now (s .entry)))) ×
+        (Noted (now (s .entry)) (now (names .exit)) (r .count .total) × (r .at .q ≤ at + longest-blocks)) ⌝ }
 {
     let w = check_record::id_bytes(read_fields::byte_or(s, 4));
     let args = read_fields::byte_or(s, 5) as u16;
     let count = read_fields::be16(s, end) as usize;
-    let a = Places {
-        p: end + 2,
-        q: at,
-        k: 0,
+    let frame = Frame {
+        width: w,
+        names: types.len() as u16,
+        args: args,
+        blocks: count,
     };
-    lvn_blocks::blocks_lvn(s, types, heads, nums, names, out, w, args, a, count)
+    let from = Spot { p: end + 2, q: at };
+    lvn_blocks::blocks_lvn(s, types, heads, nums, names, out, frame, from)
 }
 
 // All that stands before the blocks: L, version, A and N, the names, B; the place behind it. rest: L; k: how many names are made.
@@ -108,11 +112,12 @@ pub fn measure(
         (Noted (now (s .entry)) (now (names .exit)) (r .saves) × (r .bytes ≤ longest-rewriting)) ⌝ }
 {
     let mut none = [0u8; 0];
-    let a = put_blocks(s, types, heads, nums, names, &mut none, end, 0);
-    let at = front_size(s, places, names, end, a.k);
+    let b = put_blocks(s, types, heads, nums, names, &mut none, end, 0);
+    let saves = b.count.total;
+    let at = front_size(s, places, names, end, saves);
     Size {
-        bytes: at + a.q,
-        saves: a.k,
+        bytes: at + b.at.q,
+        saves: saves,
     }
 }
 
@@ -167,14 +172,15 @@ pub fn put_once(
         (now (out .exit) ≡ put (now (out .entry)) 0 (bytes (rewriting-in (now (s .entry)))))) ⌝ }
 {
     let from = end + 2;
-    let a = put_blocks(s, types, heads, nums, names, out, end, from);
-    let n = a.q - from;
-    let at = front_size(s, places, names, end, a.k);
+    let b = put_blocks(s, types, heads, nums, names, out, end, from);
+    let n = b.at.q - from;
+    let saves = b.count.total;
+    let at = front_size(s, places, names, end, saves);
     write_bytes::move_up(out, from, at, n);
-    put_front(s, places, names, out, end, a.k, (at + n - 4) as u32);
+    put_front(s, places, names, out, end, saves, (at + n - 4) as u32);
     Size {
         bytes: at + n,
-        saves: a.k,
+        saves: saves,
     }
 }
 
@@ -191,9 +197,7 @@ pub fn rewrite_measured(
 ) -> Rewritten
     requires { ⌜
         Lent (now s) (now types) (now heads) (now nums) (now names) end × NamesAt (now s) (now places) (names-count (now s)) ⌝ }
-    ensures { λ r. ⌜
-        (r ≡ rewrite-result (length (now (out .entry))) (got (record-from (now (s .entry))) 0)) ×
-        (now (out .exit) ≡ rewrite-output (now (out .entry)) (got (record-from (now (s .entry))) 0)) ⌝ }
+    ensures { λ r. ⌜ Answered (now (s .entry)) (now (out .entry)) r (now (out .exit)) ⌝ }
 {
     let size = measure(s, types, places, heads, nums, names, end);
     if out.len() < size.bytes {
@@ -216,9 +220,7 @@ pub fn rewrite_noting(
     out: &mut [u8],
 ) -> Rewritten
     requires { ⌜ Typed (now s) (now types) (now places) end × (256 * num-at (now s) end 2 ≤ length (now names)) ⌝ }
-    ensures { λ r. ⌜
-        (r ≡ rewrite-result (length (now (out .entry))) (got (record-from (now (s .entry))) 0)) ×
-        (now (out .exit) ≡ rewrite-output (now (out .entry)) (got (record-from (now (s .entry))) 0)) ⌝ }
+    ensures { λ r. ⌜ Answered (now (s .entry)) (now (out .entry)) r (now (out .exit)) ⌝ }
 {
     let mut heads = [0u64; 512];
     let mut nums = [0u64; 512];
@@ -238,9 +240,7 @@ pub fn rewrite_typed(
     out: &mut [u8],
 ) -> Rewritten
     requires { ⌜ Typed (now s) (now types) (now places) end ⌝ }
-    ensures { λ r. ⌜
-        (r ≡ rewrite-result (length (now (out .entry))) (got (record-from (now (s .entry))) 0)) ×
-        (now (out .exit) ≡ rewrite-output (now (out .entry)) (got (record-from (now (s .entry))) 0)) ⌝ }
+    ensures { λ r. ⌜ Answered (now (s .entry)) (now (out .entry)) r (now (out .exit)) ⌝ }
 {
     if read_fields::be16(s, end) <= 4 {
         let mut few = [0u16; 1024];

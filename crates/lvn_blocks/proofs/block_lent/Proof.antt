@@ -1,5 +1,5 @@
 -- `lvn_blocks::block_lent` meets its contract: its MIR runs as that of every function to which a count is lent, over the row of its other
--- parameters. All that the proof knows of `block_counted`, which is called, is its contract.
+-- parameters. All that the proof knows of `block_lvn`, which is called, is its contract.
 -- Assumes nothing.
 use mathlib.Core.Path.{refl}
 use mathlib.Core.List.{[], _∷_, List}
@@ -37,9 +37,9 @@ use Rattle.lvn_blocks.proofs.SaveCount as T
 use Rattle.lvn_blocks.proofs.SaveCount.Laws as T′
 use Rattle.lvn_blocks.proofs.Spot as S
 use Rattle.lvn_blocks.proofs.Spot.Laws as S′
-use Rattle.lvn_blocks.proofs.block_counted as callee
-use Rattle.lvn_blocks.proofs.block_counted.Symbol as callee-def
-use Rattle.lvn_blocks.proofs.block_counted.Met as callee-thm
+use Rattle.lvn_blocks.proofs.block_lvn as callee
+use Rattle.lvn_blocks.proofs.block_lvn.Symbol as callee-def
+use Rattle.lvn_blocks.proofs.block_lvn.Met as callee-thm
 use Rattle.lvn_blocks.proofs.block_lent.Key as key
 use Rattle.lvn_blocks.proofs.block_lent as self
 use Rattle.lvn_blocks.proofs.block_lent.Statement as stated
@@ -146,5 +146,5 @@ block-lent-spec 𝓤 H 𝓜 𝓖 𝓡 =
       goes-ref 𝓤 H (𝓖 .A) W (self.signature .lifetimes) 0 tt (plain (λ _. T.the-row)),
       all-go 𝓤 H (𝓖 .A) W (others (self.signature .params)) (self.ended .kept .1),
     ))
-    (code.unfolded 𝓤 H 𝓜 𝓡) callee-def.routine code.calls-lvn-blocks·block-counted (Callee 𝓤 H (𝓖 .A) (𝓜 .mem) (𝓡 .run))
+    (code.unfolded 𝓤 H 𝓜 𝓡) callee-def.routine code.calls-lvn-blocks·block-lvn (Callee 𝓤 H (𝓖 .A) (𝓜 .mem) (𝓡 .run))
     (callee-thm.met 𝓤 H 𝓜 𝓖 𝓡) (λ W. walks 𝓤 H (𝓖 .A) W (𝓜 .mem) (𝓡 .run))

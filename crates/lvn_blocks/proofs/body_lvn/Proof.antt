@@ -8,7 +8,7 @@ use borrow.Author.Needs.{needs}
 use Rattle.record.specs.Record.{type-in}
 use Rattle.lvn_state.specs.View.{state-of}
 use Rattle.lvn_blocks.specs.Block.{Asks}
-use Rattle.lvn_blocks.proofs.Turned.{Going, going-all, going-none, going-less, asks-fit, asks-passes, asks-less}
+use Rattle.lvn_blocks.proofs.Turned.{Going, going-all, going-none, going-less, asks-one, asks-less}
 use Rattle.lvn_blocks.proofs.body_lvn.Statement.{statement}
 use Rattle.lvn_blocks.proofs.body_lvn.Tie as tie
 
@@ -22,14 +22,14 @@ record Kept (e₀ l₀ hs₀ ns₀ m₀ o₀ e l hs ns m o : List ℕ) : Type 0 
   out : length o ≡ length o₀
 
 abbrev Inv-loop : tie.InvT-loop
-Inv-loop s types env₀ homes₀ heads₀ nums₀ names₀ out₀ w n count t₀ left₀ env homes heads nums names out t left =
-    Asks w n s env homes t left heads nums ×
-    (Going w n s (type-in types) t₀ (state-of env₀ homes₀ (t₀ .st) heads₀ nums₀) count names₀ out₀ t
+Inv-loop s types env₀ homes₀ heads₀ nums₀ names₀ out₀ frame count t₀ left₀ env homes heads nums names out t left =
+    Asks frame s env homes t left heads nums ×
+    (Going frame s (type-in types) t₀ (state-of env₀ homes₀ (t₀ .st) heads₀ nums₀) count names₀ out₀ t
     (state-of env homes (t .st) heads nums) left names out ×
     Kept env₀ homes₀ heads₀ nums₀ names₀ out₀ env homes heads nums names out)
 
 abbrev μ-loop : tie.MeasureT-loop
-μ-loop s types env₀ homes₀ heads₀ nums₀ names₀ out₀ w n count t₀ left₀ env homes heads nums names out t left = left
+μ-loop s types env₀ homes₀ heads₀ nums₀ names₀ out₀ frame count t₀ left₀ env homes heads nums names out t left = left
 
 loop-holds : tie.Need-loop-holds Inv-loop μ-loop
 loop-holds c =
@@ -42,8 +42,7 @@ turn-once-requires c κs =
     let c7 = c6 .before in
     let v = c7 .loop in
     let h = c6 .loop-test .taken in
-    let a = v .inv .0 in
-    (asks-fit (v .left) h a, (a .width, (a .maps, (a .tables, asks-passes (v .left) h a))))
+    asks-one (v .left) h (v .inv .0)
 
 loop-again : tie.Need-loop-again Inv-loop μ-loop
 loop-again c =

@@ -9,8 +9,8 @@ use Rattle.record.specs.View.{instr-of}
 use Rattle.numbering.specs.Number.{Emitted, instr-lvn}
 use Rattle.read_instrs.proofs.Again.{instr-readable}
 use Rattle.lvn_state.specs.View.{state-of}
-use Rattle.lvn_blocks.proofs.Accepted.{ready}
-use Rattle.lvn_blocks.proofs.Turned.{lvn-id, turned}
+use Rattle.lvn_blocks.proofs.Accepted.{ready, named}
+use Rattle.lvn_blocks.proofs.Turned.{lvn-id, turned, asks-passes}
 use Rattle.lvn_blocks.proofs.turn_once.Statement.{statement}
 use Rattle.lvn_blocks.proofs.turn_once.Tie as tie
 
@@ -19,18 +19,17 @@ read-instr-requires c κs =
     let c9 = c .before .before .before .before .before .before .before .before .before in
     let a = c9 .args in
     let p = c9 .pre in
-    (omega (arith, p .0 .reads), (p .1 .0, instr-readable (instr-from (a .w) (a .s .now) (a .t .p)) (p .1 .1 .1 .1 .ok)))
+    let ok = asks-passes 1 (omega arith) p .ok in
+    (omega (arith, p .reads), (p .width, instr-readable (instr-from (a .frame .width) (a .s .now) (a .t .at .p)) ok))
 
 instr-lvn-requires : tie.Need-instr-lvn-requires
 instr-lvn-requires c κs =
     let c5 = c .before .before .before .before .before in
     let c15 = c5 .before .before .before .before .before .before .before .before .before .before in
     let p = c15 .pre in
-    let f = p .0 in
-    let tables = p .1 .1 .1 .0 in (
-      ready (f .names) (p .1 .1 .1 .1 .ok) (c5 .read-instr .ensures),
-      (omega (arith, f .room), (omega (arith, f .made, f .names), (p .1 .1 .0, (tables .heads, tables .nums)))),
-    )
+    let ok = asks-passes 1 (omega arith) p .ok in
+    let again = c5 .read-instr .ensures in
+    (ready ok again, (named ok again (p .names) (p .some), (omega (arith, p .numbers), (omega (arith, p .made), p .tables))))
 
 put-lines-requires : tie.Need-put-lines-requires
 unfolding instr-of
@@ -45,14 +44,14 @@ put-lines-requires c κs =
     let e = c15 .instr-lvn in
     let st = state-of (a .env .now) (a .homes .now) (a .t .st) (a .heads .now) (a .nums .now) in
     let ty = type-in (a .types .now) in
-    let i = instr-from (a .w) (a .s .now) (a .t .p) in
+    let i = instr-from (a .frame .width) (a .s .now) (a .t .at .p) in
     let k : g .result .instr .id ≡ i .id = ap (λ (x : Instr). x .id) (g .ensures .instr) in
-    let d : e .result .instr .id ≡ instr-lvn (a .n) ty st i .instr .id =
-    ap (λ (x : Emitted). x .instr .id) (e .ensures .0) ∙ ap (λ (x : Instr). instr-lvn (a .n) ty st x .instr .id) (g .ensures .instr) in
-    let id : e .result .instr .id < 256 ^ a .w =
-    subst (λ (n : ℕ). n < 256 ^ a .w) (sym d)
-    (lvn-id ty st i (p .1 .1 .1 .1 .ok) (256 ^ a .w) (subst (λ (n : ℕ). n < 256 ^ a .w) k (g .ensures .id))) in
-    (omega (arith, p .0 .writes), (p .1 .0, (id, e .ensures .1)))
+    let d : e .result .instr .id ≡ instr-lvn (a .frame .names) ty st i .instr .id =
+    ap (λ (x : Emitted). x .instr .id) (e .ensures .0) ∙ ap (λ (x : Instr). instr-lvn (a .frame .names) ty st x .instr .id) (g .ensures .instr) in
+    let id : e .result .instr .id < 256 ^ a .frame .width =
+    subst (λ (n : ℕ). n < 256 ^ a .frame .width) (sym d)
+    (lvn-id ty st i (asks-passes 1 (omega arith) p .ok) (256 ^ a .frame .width) (subst (λ (n : ℕ). n < 256 ^ a .frame .width) k (g .ensures .id))) in
+    (omega (arith, p .writes), (p .width, (id, e .ensures .1)))
 
 returns : tie.Need-returns
 returns c =
@@ -65,9 +64,9 @@ returns c =
     let g = c25 .read-instr in
     let e = c19 .instr-lvn in
     let o = c3 .put-lines .ensures in
-    turned (type-in (a .types .now)) (a .t) (g .result) (e .result) (a .env .now) (a .homes .now) (a .heads .now) (a .nums .now)
+    turned (a .frame) (type-in (a .types .now)) (a .t) (g .result) (e .result) (a .env .now) (a .homes .now) (a .heads .now) (a .nums .now)
     (e .last .1 .0) (e .last .1 .1 .0) (e .last .1 .1 .1 .0) (e .last .1 .1 .1 .1 .0)
-    (c35 .pre .1 .1 .1 .1 .ok) (g .ensures) (e .ensures .0) (c7 .note-save .ensures) (o .0) (o .1)
+    (asks-passes 1 (omega arith) (c35 .pre) .ok) (g .ensures) (e .ensures .0) (c7 .note-save .ensures) (o .0) (o .1)
 
 pub turn-once-spec : {M : Type 1} → statement M
 turn-once-spec =

@@ -8,21 +8,22 @@ use Rattle.record.specs.Record.{Instr, type-in}
 use Rattle.record.specs.View.{instr-of}
 use Rattle.record.specs.declared.NameIx.{NameIx}
 use Rattle.numbering.specs.View.{expr-of}
-use Rattle.lvn_state.proofs.Room.{maps-kept}
+use Rattle.lvn_state.proofs.Room.{tables-kept}
 use Rattle.lvn_state.specs.View.{state-of, names-in}
-use Rattle.lvn_instr.proofs.Forms.{low-args}
 use Rattle.lvn_instr.proofs.Placed.{seen-next, seen-temps, instr-by-op}
 use Rattle.lvn_instr.proofs.instr_lvn.Statement.{statement}
 use Rattle.lvn_instr.proofs.instr_lvn.Tie as tie
 
 gen-new-vals-requires : tie.Need-gen-new-vals-requires
+unfolding instr-of
 gen-new-vals-requires c κs =
     let c11 = c .before .before .before .before .before .before .before .before .before .before .before in
     let p = c11 .pre in
-    let ready = p .0 in
-    (ready .few, (low-args (c11 .args .i) ready, (p .1 .0, (p .1 .1 .1 .0, p .1 .1 .1 .1 .0))))
+    let tables = p .1 .1 .1 .1 in
+    (p .0 .few, (p .1 .0 .low, (p .1 .1 .0, (tables .maps, tables .heads))))
 
 make-val-requires : tie.Need-make-val-requires
+unfolding instr-of
 make-val-requires c κs =
     let c9 = c .before .before .before .before .before .before .before .before .before in
     let c21 = c9 .before .before .before .before .before .before .before .before .before .before .before .before in
@@ -34,11 +35,11 @@ make-val-requires c κs =
     let xs = names-in (a .i .count) (a .i .args) in
     let after = g .last .1 .1 .1 .0 in
     let t = state-of (g .last .1 .0) (g .last .1 .1 .0) (g .result) after ns in
-    let k : g .result .count ≤ 511 =
-    seen-next (a .env .now) (a .homes .now) (a .st) hs ns xs t (g .ensures ns) (low-args (a .i) (p .0)) (p .1 .0) in
+    let k : g .result .count < length (a .homes .now) =
+    seen-next (length (a .env .now)) (a .env .now) (a .homes .now) (a .st) hs ns xs t (g .ensures ns) (p .1 .0 .low) (p .1 .1 .0) in
     let h : length after ≡ length hs = g .kept .1 .1 .1 .0 in
-    let lh : g .result .count ≤ length after = omega (arith, p .1 .1 .1 .1 .0) in
-    let ln : g .result .count ≤ length ns = omega (arith, p .1 .1 .1 .1 .1) in
+    let lh : g .result .count ≤ length after = omega (arith, p .1 .1 .1 .1 .heads) in
+    let ln : g .result .count ≤ length ns = omega (arith, p .1 .1 .1 .1 .nums) in
     (p .0, (lh, ln))
 
 rewrite-instr-requires : tie.Need-rewrite-instr-requires
@@ -56,7 +57,6 @@ emit-requires c κs =
     let c29 = c17 .before .before .before .before .before .before .before .before .before .before .before .before in
     let p = c29 .pre in
     let a = c29 .args in
-    let ready = p .0 in
     let g = c17 .gen-new-vals in
     let r = c4 .rewrite-instr in
     let hs = a .heads .now in
@@ -65,18 +65,21 @@ emit-requires c κs =
     let after = g .last .1 .1 .1 .0 in
     let t = state-of (g .last .1 .0) (g .last .1 .1 .0) (g .result) after ns in
     let s = state-of (a .env .now) (a .homes .now) (a .st) hs ns in
-    let k : g .result .count ≤ 511 =
-    seen-next (a .env .now) (a .homes .now) (a .st) hs ns xs t (g .ensures ns) (low-args (a .i) ready) (p .1 .0) in
+    let k : g .result .count < length (a .homes .now) =
+    seen-next (length (a .env .now)) (a .env .now) (a .homes .now) (a .st) hs ns xs t (g .ensures ns) (p .1 .0 .low) (p .1 .1 .0) in
     let m : g .result .made ≡ a .st .made = seen-temps s xs t (g .ensures ns) in
-    let h : length after ≡ length hs = g .kept .1 .1 .1 .0 in
+    let e : length (g .last .1 .0) ≡ length (a .env .now) = g .kept .1 .0 in
+    let h : length (g .last .1 .1 .0) ≡ length (a .homes .now) = g .kept .1 .1 .0 in
     let d : r .result .dest ≡ a .i .dest = ap (λ (z : Instr). z .dest) (r .ensures .0 t refl refl) in
-    let few : r .result .count ≤ 8 = omega (arith, r .ensures .1, ready .few) in
-    let lh : 512 ≤ length after = omega (arith, p .1 .1 .1 .1 .0) in
-    let made : a .n + g .result .made < 65535 = omega (arith, p .1 .1 .0) in
-    let count : g .result .count < 512 = omega (arith, k) in
-    let low : r .result .dest .0 < 256 = subst (λ (x : NameIx). x .0 < 256) (sym d) (ready .fit .dest) in
-    let maps = maps-kept (g .kept .1 .0) (g .kept .1 .1 .0) (p .1 .1 .1 .0) in
-    (few, (low, (count, (made, (maps, (lh, (p .1 .1 .1 .1 .1, c7 .make-val .ensures .1)))))))
+    let low : r .result .dest .0 < length (a .env .now) = subst (λ (x : NameIx). x .0 < length (a .env .now)) (sym d) (p .1 .0 .dest) in
+    record {
+      few = omega (arith, r .ensures .1, p .0 .few);
+      dest = omega (arith, e, low);
+      number = omega (arith, h, k);
+      made = omega (arith, p .1 .1 .1 .0);
+      tables = tables-kept e h (g .kept .1 .1 .1 .0) refl (p .1 .1 .1 .1);
+      operand = c7 .make-val .ensures .1;
+    }
 
 same-length : tie.Need-same-length
 same-length c =

@@ -10,7 +10,7 @@ use Rattle.numbering.specs.Number.{Saved}
 use Rattle.numbering.specs.State.{State}
 use Rattle.numbering.specs.View.{expr-of}
 use Rattle.lvn_values.specs.Table.{numbered-of}
-use Rattle.lvn_state.proofs.Room.{maps-kept}
+use Rattle.lvn_state.proofs.Room.{tables-kept}
 use Rattle.lvn_state.specs.View.{state-of, saved-of, settled}
 use Rattle.lvn_instr.proofs.Placed.{placed, id-there, overwrite-next, settled-next}
 use Rattle.lvn_instr.proofs.place.Statement.{statement}
@@ -22,15 +22,14 @@ number-dest-requires c κs =
     let c7 = c .before .before .before .before .before .before .before in
     let c17 = c7 .before .before .before .before .before .before .before .before .before .before in
     let a = c17 .args in
-    let p = c17 .pre .1 in
+    let p = c17 .pre in
     let i = instr-of (a .i) in
     let s = state-of (a .env .now) (a .homes .now) (a .st) [] [] in
     let q = c7 .handle-overwrite in
     let n : q .result .state .count ≡ a .st .count =
     ap (λ (z : Saved). z .state .next) (q .ensures [] [] i refl) ∙ overwrite-next (a .n) s i (expr-of (a .v)) in
-    let t = p .1 .1 .1 in
-    let maps = maps-kept refl (q .kept .1 .1 .0) (t .0) in
-    (p .0, (omega (arith, p .1 .0), (maps, (t .1 .0, (t .1 .1 .0, id-there (expr-of (a .v)) (t .1 .1 .1))))))
+    let h : length (q .last .1 .1 .0) ≡ length (a .homes .now) = q .kept .1 .1 .0 in
+    (p .dest, (omega (arith, p .number), (tables-kept refl h refl refl (p .tables), id-there (expr-of (a .v)) (p .operand))))
 
 choose-requires : tie.Need-choose-requires
 unfolding instr-of
@@ -40,7 +39,7 @@ choose-requires c κs =
     let c23 = c20 .before .before .before in
     let c30 = c23 .before .before .before .before .before .before .before in
     let a = c30 .args in
-    let p = c30 .pre .1 in
+    let p = c30 .pre in
     let i = instr-of (a .i) in
     let e = expr-of (a .v) in
     let q = c20 .handle-overwrite in
@@ -55,8 +54,8 @@ choose-requires c κs =
     let ns = d .last .1 .1 .1 .1 .0 in
     let h : length hs ≡ length (a .heads .now) = d .kept .1 .1 .1 .0 in
     let u : length ns ≡ length (a .nums .now) = d .kept .1 .1 .1 .1 .0 in
-    let lh : d .result .state .count ≤ length hs = omega (arith, p .1 .0, p .1 .1 .1 .1 .0) in
-    let ln : d .result .state .count ≤ length ns = omega (arith, p .1 .0, p .1 .1 .1 .1 .1 .0) in
+    let lh : d .result .state .count ≤ length hs = omega (arith, p .number, p .tables .heads) in
+    let ln : d .result .state .count ≤ length ns = omega (arith, p .number, p .tables .nums) in
     (c23 .val-to-instr .ensures .1, (lh, ln))
 
 same-length-2 : tie.Need-same-length-2

@@ -13,7 +13,7 @@ use Rattle.lvn_state.proofs.start.Tie as tie
 
 abbrev Inv-loop : tie.InvT-loop
 Inv-loop env₀ homes₀ heads₀ args k i₀ env homes heads i =
-    (i ≤ args) × ((length env ≡ 256) × ((length homes ≡ 512) ×
+    (i ≤ args) × ((length env ≡ length env₀) × ((length homes ≡ length homes₀) ×
     ((length heads ≡ length heads₀) × ((ns : List ℕ) →
     state-of env homes (record { count = i; made = k }) heads ns ≡ start-state i k))))
 
@@ -25,7 +25,7 @@ loop-holds c =
     let a = c .args in
     let e = c .pre .0 in
     let h = c .pre .1 .0 in
-    (search needs, (ap length e, (ap length h, (refl, λ ns. none-numbered (a .env .now) (a .homes .now) (a .heads .now) ns (a .k) e h))))
+    (search needs, (refl, (refl, (refl, λ ns. none-numbered (a .env .now) (a .homes .now) (a .heads .now) ns (a .k) e h))))
 
 loop-again : tie.Need-loop-again Inv-loop μ-loop
 loop-again c =
@@ -33,11 +33,12 @@ loop-again c =
     let c2 = c1 .before in
     let l = c1 .loop in
     let a = c2 .args in
-    let e : length (l .env) ≡ 256 = l .inv .1 .0 in
-    let o : length (l .homes) ≡ 512 = l .inv .1 .1 .0 in
+    let e : length (l .env) ≡ length (a .env .now) = l .inv .1 .0 in
+    let o : length (l .homes) ≡ length (a .homes .now) = l .inv .1 .1 .0 in
     let h : length (l .heads) ≡ length (a .heads .now) = l .inv .1 .1 .1 .0 in
-    let few : a .args ≤ 256 = c2 .pre .1 .1 .0 in
-    let wide : 512 ≤ length (a .heads .now) = c2 .pre .1 .1 .1 in
+    let names : a .args ≤ length (a .env .now) = c2 .pre .1 .1 .0 in
+    let numbers : a .args ≤ length (a .homes .now) = c2 .pre .1 .1 .1 .0 in
+    let entries : a .args ≤ length (a .heads .now) = c2 .pre .1 .1 .1 .1 in
     let next : l .i < a .args = c .loop-test .taken in (
       search needs,
       (
@@ -68,6 +69,5 @@ start-spec =
     tie.close
     (tie.spec Inv-loop μ-loop loop-holds (λ c. search needs) (λ c. search needs) (λ c. search needs)
     (λ c. search needs) (λ c. search needs) (λ c. search needs) (λ c. search needs) (λ c. search needs)
-    (λ c. search needs) loop-again (λ c. c .before .loop .inv .1 .0 ∙ sym (ap length (c .before .before .pre .0)))
-    (λ c. c .before .loop .inv .1 .1 .0 ∙ sym (ap length (c .before .before .pre .1 .0)))
+    (λ c. search needs) loop-again (λ c. c .before .loop .inv .1 .0) (λ c. c .before .loop .inv .1 .1 .0)
     (λ c. c .before .loop .inv .1 .1 .1 .0) returns)

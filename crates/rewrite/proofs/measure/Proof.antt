@@ -12,7 +12,7 @@ returns c =
     let s = blocks .before .before .before .before .before .before .before .before .before .before .before .args .s .now in
     let f = front .front-size .ensures in
     let b = blocks .put-blocks .ensures in (
-      parts-size (rewriting-in s) 0 (front .front-size .result) (blocks .put-blocks .result .q) (f .0) (omega (arith, b .0 .end)),
+      parts-size (rewriting-in s) 0 (front .front-size .result) (blocks .put-blocks .result .at .q) (f .0) (omega (arith, b .0 .end)),
       (b .1 .0, omega (arith, f .1 .0, b .1 .1)),
     )
 

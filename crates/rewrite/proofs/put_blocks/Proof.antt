@@ -1,12 +1,18 @@
 use borrow.Author.Needs.{needs}
-use mathlib.Core.Path.{ap, _∙_}
+use mathlib.Core.Path.{refl, ap, _∙_}
 use mathlib.Core.List.{[]}
 use native.Mathlib.Omega.{arith}
 use Rattle.record.specs.Record.{id-bytes}
-use Rattle.record.proofs.Again.{few-blocks}
-use Rattle.rewrite.proofs.Known.{blocks-pass, blocks-ask, blocks-put, blocks-noted}
+use Rattle.record.proofs.Again.{few-original, few-blocks}
+use Rattle.rewrite.proofs.Known.{types-many, blocks-ask, blocks-put, blocks-noted}
 use Rattle.rewrite.proofs.put_blocks.Statement.{statement}
 use Rattle.rewrite.proofs.put_blocks.Tie as tie
+
+cast-t16 : tie.Need-cast-t16
+cast-t16 c =
+    let version = c .before .before .before in
+    let p = version .before .before .before .before .before .before .before .pre .0 in
+    omega (arith, types-many (p .reads) (p .types), few-original (p .reads))
 
 blocks-lvn-requires : tie.Need-blocks-lvn-requires
 blocks-lvn-requires c κs =
@@ -17,8 +23,8 @@ blocks-lvn-requires c κs =
     let pre = version .before .before .before .before .before .before .before .pre in
     let p = pre .0 in
     let w = width .id-bytes .ensures ∙ ap id-bytes (version .byte-or .ensures .0) in (
+      refl,
       blocks-ask (p .reads) _ _ _ _ (p .types) w (args .byte-or2 .ensures .0) (count .be16 .ensures .0) (pre .1) (p .heads) (p .nums),
-      blocks-pass (p .reads) _ _ (p .types) w (count .be16 .ensures .0),
     )
 
 returns : tie.Need-returns
@@ -42,5 +48,5 @@ pub put-blocks-spec : {M : Type 1} → statement M
 put-blocks-spec =
     tie.close
     (tie.spec (λ c κs. search needs) (λ c κs. search needs) (λ c κs. search needs) (λ c. search needs)
-    (λ c κs. search needs) (λ c. search needs) blocks-lvn-requires (λ c. search needs) (λ c. search needs)
+    (λ c κs. search needs) cast-t16 (λ c. search needs) blocks-lvn-requires (λ c. search needs) (λ c. search needs)
     (λ c. search needs) (λ c. search needs) returns)

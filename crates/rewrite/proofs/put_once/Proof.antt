@@ -13,7 +13,7 @@ move-up-requires c κs =
     let front = c .before in
     let blocks = front .before .before .before .before .before .before .before .before .before .before .before in
     let entry = blocks .before .before .before .before .before .before .before .before .before .before .before .before in
-    let n = blocks .put-blocks .result .q - (entry .args .end + 2) in
+    let n = blocks .put-blocks .result .at .q - (entry .args .end + 2) in
     let f = front .front-size .ensures in
     let size = parts-size (rewriting-in (entry .args .s .now)) 0 (front .front-size .result) n (f .0)
     (omega (arith, blocks .put-blocks .ensures .0 .end)) in
@@ -40,7 +40,7 @@ returns c =
     let blocks = front .before .before .before .before .before .before .before .before .before .before .before in
     let entry = blocks .before .before .before .before .before .before .before .before .before .before .before .before in
     let R = rewriting-in (entry .args .s .now) in
-    let n = blocks .put-blocks .result .q - (entry .args .end + 2) in
+    let n = blocks .put-blocks .result .at .q - (entry .args .end + 2) in
     let b = blocks .put-blocks .ensures in
     let f = front .front-size .ensures in (
       parts-size R 0 (front .front-size .result) n (f .0) (omega (arith, b .0 .end)),

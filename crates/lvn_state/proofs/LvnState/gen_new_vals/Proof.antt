@@ -22,13 +22,13 @@ record Seeing
     at-most : at ≤ n
     few : n ≤ 8
     eight : length args ≡ 8
-    low : Low (rest args n at)
-    fits : room (state-of env homes s [] []) ≤ 511
-    maps : Maps env homes
+    low : Low (length env₀) (rest args n at)
+    fits : room (length env₀) (state-of env homes s [] []) < length homes₀
+    maps : Maps env₀ homes₀
     kept-env : length env ≡ length env₀
     kept-homes : length homes ≡ length homes₀
     kept : length hs ≡ length hs₀
-    table : 512 ≤ length hs₀
+    table : length homes₀ ≤ length hs₀
     seen :
         (ns : List ℕ) →
         gen-new-vals (state-of env homes s hs ns) (rest args n at) ≡ gen-new-vals (state-of env₀ homes₀ s₀ hs₀ ns) (names-in n args)
@@ -68,13 +68,14 @@ see-requires c κs =
     let k : length (a .t5) ≡ 8 = l .inv .eight in
     let few : a .n ≤ 8 = l .inv .few in
     let s = state-of (l .env) (l .homes) (l .st) [] [] in
-    let n : s .next ≤ room s = next-room s in
-    let f : room s ≤ 511 = l .inv .fits in
-    let next : l .st .count < 512 = omega (arith, n, f) in
-    let e : length (l .heads) ≡ length (a .heads .now) = l .inv .kept in (
-      low-first (a .t5) (a .n) (l .at) (c3 .loop-test .taken) (omega arith) (l .inv .low),
-      (next, (l .inv .maps, omega (arith, e, l .inv .table))),
-    )
+    let m = length (a .env .now) in
+    let n : s .next ≤ room m s = next-room m s in
+    let f : room m s < length (a .homes .now) = l .inv .fits in
+    let v : length (l .env) ≡ length (a .env .now) = l .inv .kept-env in
+    let h : length (l .homes) ≡ length (a .homes .now) = l .inv .kept-homes in
+    let e : length (l .heads) ≡ length (a .heads .now) = l .inv .kept in
+    let low = low-first (a .t5) (a .n) (l .at) (c3 .loop-test .taken) (omega arith) m (l .inv .low) in
+    (omega (arith, v, low), (omega (arith, n, f, h), (maps-kept v h (l .inv .maps), omega (arith, h, e, l .inv .table))))
 
 loop-again : tie.Need-loop-again Inv-loop μ-loop
 loop-again c =
@@ -89,18 +90,19 @@ loop-again c =
     let t = c10 .loop-test .taken in
     let k : length (a .t5) ≡ 8 = l .inv .eight in
     let few : a .n ≤ 8 = l .inv .few in
-    let low = low-first (a .t5) (a .n) (l .at) t (omega arith) (l .inv .low) in
+    let m = length (a .env .now) in
+    let low = low-first (a .t5) (a .n) (l .at) t (omega arith) m (l .inv .low) in
     let env = d .last .1 .0 in
     let homes = d .last .1 .1 .0 in
     let heads = d .last .1 .1 .1 .0 in
-    let r = seen-room (l .env) (l .homes) env homes (l .st) (d .result) (l .heads) heads x low (d .ensures []) in
+    let r = seen-room (l .env) (l .homes) env homes (l .st) (d .result) (l .heads) heads x m low (d .ensures []) in
     record {
       at-most = omega arith;
       few = few;
       eight = k;
-      low = low-rest (a .t5) (a .n) (l .at) t (omega arith) (l .inv .low);
+      low = low-rest (a .t5) (a .n) (l .at) t (omega arith) m (l .inv .low);
       fits = (let f = l .inv .fits in omega (arith, r, f));
-      maps = maps-kept (d .kept .1 .0) (d .kept .1 .1 .0) (l .inv .maps);
+      maps = l .inv .maps;
       kept-env = d .kept .1 .0 ∙ l .inv .kept-env;
       kept-homes = d .kept .1 .1 .0 ∙ l .inv .kept-homes;
       kept = d .kept .1 .1 .1 .0 ∙ l .inv .kept;

@@ -1,4 +1,5 @@
 -- `lvn_state::LvnState::number_dest` meets its contract.
+use Prim.Native.Nat.{_≤_}
 use mathlib.Core.Option.{none}
 use mathlib.Core.Path.{_≡_, refl, sym, ap, _∙_}
 use native.Mathlib.Omega.{arith}
@@ -19,10 +20,10 @@ update-env-requires c κs =
     let a = c11 .args in
     let p = c11 .pre in
     let s = state-of (a .env .now) (a .homes .now) (a .self) (a .heads .now) (a .nums .now) in
-    let k : length (a .env .now) ≡ 256 = p .1 .1 .0 .names in
+    let m : length (a .homes .now) ≤ 65535 = p .1 .1 .0 .maps .numbers in
     let f : numbered-of (c4 .get-val-num .result) ≡ val-num-of s (expr-of (a .v)) = c4 .get-val-num .ensures s refl refl in
     let n = sym f ∙ ap numbered-of (c2 .number .given .1) in
-    (omega (arith, p .0), number-stands s (expr-of (a .v)) _ (omega (arith, p .1 .0)) (p .1 .1 .1 .1 .1) n)
+    (p .0, number-stands s (expr-of (a .v)) _ (omega (arith, p .1 .0)) (p .1 .1 .1) n)
 
 returns : tie.Need-returns
 returns c =

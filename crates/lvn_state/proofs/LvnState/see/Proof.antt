@@ -1,6 +1,5 @@
 -- `lvn_state::LvnState::see` meets its contract.
-use Prim.Native.Nat.{_<_}
-use mathlib.Core.Path.{_≡_}
+use Prim.Native.Nat.{_<_, _≤_}
 use native.Mathlib.Omega.{arith}
 use lib.ListN.{length}
 use borrow.Author.Needs.{needs}
@@ -12,8 +11,7 @@ returns : tie.Need-returns
 returns c =
     let c3 = c .before .before .before in
     let a = c3 .args in
-    let k : length (a .env .now) ≡ 256 = c3 .pre .1 .1 .0 .names in
-    λ ns. see-seen (a .env .now) (a .homes .now) (a .self) (a .heads .now) ns (a .x) (omega (arith, c3 .pre .0)) (c .if1 .taken)
+    λ ns. see-seen (a .env .now) (a .homes .now) (a .self) (a .heads .now) ns (a .x) (c3 .pre .0) (c .if1 .taken)
 
 returns-2 : tie.Need-returns-2
 returns-2 c =
@@ -21,11 +19,10 @@ returns-2 c =
     let c5 = c2 .before .before .before in
     let a = c5 .args in
     let p = c5 .pre in
-    let k : length (a .env .now) ≡ 256 = p .1 .1 .0 .names in
-    let h : length (a .homes .now) ≡ 512 = p .1 .1 .0 .numbers in
-    let n : a .self .count < 512 = p .1 .0 in
-    λ ns. see-unseen (a .env .now) (a .homes .now) (a .self) (a .heads .now) ns (a .x) (omega (arith, p .0)) (omega arith)
-    (λ e. omega arith) (omega (arith, p .1 .1 .1)) (c2 .if1 .left)
+    let m : length (a .homes .now) ≤ 65535 = p .1 .1 .0 .numbers in
+    let n : a .self .count < length (a .homes .now) = p .1 .0 in
+    λ ns. see-unseen (a .env .now) (a .homes .now) (a .self) (a .heads .now) ns (a .x) (p .0) n (λ e. omega arith)
+    (omega (arith, p .1 .1 .1)) (c2 .if1 .left)
 
 pub see-spec : {M : Type 1} → statement M
 see-spec =
