@@ -1,6 +1,6 @@
 -- How code follows the reading of names: the tests of a text, what a name that passes tells of its bytes, and the turns of the loop
 -- over names, where the texts seen are those of the names that stand before. Rests on the laws of readers in record's Following.
-use Prim.Native.Nat.{ℕ, zero, suc, _+_, _-_, _<_, _≤_}
+use Prim.Native.Nat.{ℕ, suc, _+_, _-_, _<_, _≤_}
 use mathlib.Core.Path.{_≡_, refl, sym, ap, _∙_}
 use mathlib.Core.List.{List, [], _∷_, _++_}
 use mathlib.Core.Bool.{Bool, true, false, not, _&&_, _||_}
@@ -25,7 +25,9 @@ use Rattle.record.specs.Answer.{verdict}
 use Rattle.record.proofs.Takes.{bind-got}
 use Rattle.record.proofs.Fields.{field-tells, text-tells}
 use Rattle.record.proofs.Following.{verdict-got, read-no, read-is, stopped, made}
-use Rattle.check_texts.specs.Names.{text-of, next-name, texts-from, behind}
+use Rattle.record.specs.Decode.{items, behind, name-from, name-end}
+use Rattle.read_layout.specs.Layout.{texts-from}
+use Rattle.record.proofs.Rows.{behind-more, items-more}
 
 -- ---- a text's length
 module _ (most n : ℕ) where
@@ -86,8 +88,8 @@ length-tells most s q n t e =
     (length-passes most n (f .passes), f .ends, f .value)
 
 module _ (lim : Limits) (seen : List (List ℕ)) (s : List ℕ) (p : ℕ) where
-  name-tells : (x : Name) (q : ℕ) → name lim seen s p ≡ got x q → (x .text ≡ text-of s p) × (q ≡ next-name s p) × (q ≤ length s)
-  unfolding name give text-of next-name
+  name-tells : (x : Name) (q : ℕ) → name lim seen s p ≡ got x q → (x .text ≡ name-from s p .text) × (q ≡ name-end s p) × (q ≤ length s)
+  unfolding name give name-end
   name-tells x q e =
       let a = bind-got (field 1 type-test) _ s p x q e in
       let fa = field-tells 1 type-test s p (a .value) (a .place) (a .first) in
@@ -120,16 +122,6 @@ module _ (lim : Limits) (seen : List (List ℕ)) (s : List ℕ) (p : ℕ) where
     text-last n t v f h = read-is _ _ s p x q v e (read-is _ _ s q n t v f (h ∙ sym (made (text n (text-test (lim .made) seen)) _ s t)))
 
 -- ---- names one after the other
--- the names that stand before, with one more
-pub behind-more : (s : List ℕ) (p k : ℕ) → behind s p (suc k) ≡ next-name s (behind s p k)
-unfolding behind
-behind-more s p zero = refl
-behind-more s p (suc k) = behind-more s (next-name s p) k
-
-pub texts-more : (s : List ℕ) (p k : ℕ) → texts-from s p (suc k) ≡ texts-from s p k ++ (text-of s (behind s p k) ∷ [])
-unfolding texts-from behind
-texts-more s p zero = refl
-texts-more s p (suc k) = ap (_∷_ (text-of s p)) (texts-more s (next-name s p) k)
 
 module _ (lim : Limits) (seen : List (List ℕ)) (s : List ℕ) (p : ℕ) where
   one-stopped :
@@ -140,8 +132,8 @@ module _ (lim : Limits) (seen : List (List ℕ)) (s : List ℕ) (p : ℕ) where
 
   one-went :
       (n q : ℕ) → verdict (name lim seen s p) ≡ At q →
-      (q ≡ next-name s p)
-      × (verdict (names lim (seen ++ (text-of s p ∷ [])) n s q) ≡ verdict (names lim seen (suc n) s p))
+      (q ≡ name-end s p)
+      × (verdict (names lim (seen ++ (name-from s p .text ∷ [])) n s q) ≡ verdict (names lim seen (suc n) s p))
       × (q ≤ length s)
   unfolding names
   one-went n q e =
@@ -160,7 +152,7 @@ module _ (lim : Limits) (s : List ℕ) (at count : ℕ) where
   abbrev pub rest : ℕ → ℕ → Next
   rest left p = verdict (names lim (texts-from s at (count - left)) left s p)
 
-  module _ (left p : ℕ) (z : 0 < left) (g : left ≤ count) (ep : p ≡ behind s at (count - left)) where
+  module _ (left p : ℕ) (z : 0 < left) (g : left ≤ count) (ep : p ≡ behind (name-end s) at (count - left)) where
     abbrev seen : List (List ℕ)
     seen = texts-from s at (count - left)
 
@@ -170,21 +162,22 @@ module _ (lim : Limits) (s : List ℕ) (at count : ℕ) where
     one-more : suc (count - left) ≡ count - (left - 1)
     one-more = omega arith
 
-    pub more-seen : texts-from s at (count - (left - 1)) ≡ seen ++ (text-of s p ∷ [])
+    pub more-seen : texts-from s at (count - (left - 1)) ≡ seen ++ (name-from s p .text ∷ [])
+    unfolding texts-from
     more-seen =
         ap (texts-from s at) (sym one-more)
-        ∙ texts-more s at (count - left)
-        ∙ ap (λ (o : ℕ). seen ++ (text-of s o ∷ [])) (sym ep)
+        ∙ items-more (λ q. name-from s q .text) (name-end s) at (count - left)
+        ∙ ap (λ (o : ℕ). seen ++ (name-from s o .text ∷ [])) (sym ep)
 
     pub names-stopped : (k : Refusal) (o : ℕ) → verdict (name lim seen s p) ≡ Refused k o → Refused k o ≡ rest left p
     names-stopped k o e = one-stopped lim seen s p (left - 1) k o e ∙ ap (λ (n : ℕ). verdict (names lim seen n s p)) one-less
 
     pub names-went :
         (q : ℕ) → verdict (name lim seen s p) ≡ At q →
-        (q ≡ behind s at (count - (left - 1))) × (rest (left - 1) q ≡ rest left p) × (next-name s p ≤ length s)
+        (q ≡ behind (name-end s) at (count - (left - 1))) × (rest (left - 1) q ≡ rest left p) × (name-end s p ≤ length s)
     names-went q e =
         let w = one-went lim seen s p (left - 1) q e in (
-          w .0 ∙ ap (next-name s) ep ∙ sym (behind-more s at (count - left)) ∙ ap (behind s at) one-more,
+          w .0 ∙ ap (name-end s) ep ∙ sym (behind-more (name-end s) at (count - left)) ∙ ap (behind (name-end s) at) one-more,
           ap (λ (us : List (List ℕ)). verdict (names lim us (left - 1) s q)) more-seen
               ∙ w .1
               ∙ ap (λ (n : ℕ). verdict (names lim seen n s p)) one-less,
@@ -199,11 +192,7 @@ names-done lim seen s p left z = sym (ap (λ (n : ℕ). verdict (names lim seen 
 pub names-all :
     (lim : Limits) (s : List ℕ) (at count : ℕ) →
     verdict (names lim (texts-from s at (count - count)) count s at) ≡ verdict (names lim [] count s at)
-unfolding texts-from
+unfolding texts-from items
 names-all lim s at count =
     let z : count - count ≡ 0 = omega arith in
     ap (λ (k : ℕ). verdict (names lim (texts-from s at k) count s at)) z
-
-pub behind-none : (s : List ℕ) (at count : ℕ) → at ≡ behind s at (count - count)
-unfolding behind
-behind-none s at count = let z : count - count ≡ 0 = omega arith in sym (ap (behind s at) z)

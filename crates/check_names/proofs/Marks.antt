@@ -17,9 +17,10 @@ use Rattle.record.specs.Tests.{type-test, text-length-test, text-test}
 use Rattle.record.specs.Read.{name}
 use Rattle.record.specs.Answer.{verdict}
 use Rattle.record.proofs.Tests.{same-bytes-eq}
-use Rattle.check_texts.specs.Names.{text-of, next-name, texts-from, behind}
+use Rattle.record.specs.Decode.{items, behind, name-from, name-end}
+use Rattle.read_layout.specs.Layout.{texts-from}
+use Rattle.record.proofs.Rows.{name-grows, behind-on}
 use Rattle.check_texts.proofs.Bytes.{part-first}
-use Rattle.check_texts.proofs.Laws.{behind-le}
 use Rattle.check_names.specs.Marks.{mark}
 use Rattle.check_names.proofs.Laws.{type-refused, length-refused, text-last, type-ends, length-tells}
 
@@ -53,7 +54,7 @@ unmarked m (u ∷ us) t h z = go (same-bytes t u) refl (unmarked m us t (h .1) z
 
 -- no text, where all of count names are left
 pub none-marked : (m s : List ℕ) (at count : ℕ) → Marked m (texts-from s at (count - count))
-unfolding Marked texts-from
+unfolding Marked texts-from items
 none-marked m s at count =
     let z : count - count ≡ 0 = omega arith in
     subst (λ (k : ℕ). Marked m (texts-from s at k)) (sym z) tt
@@ -96,19 +97,19 @@ module _ (made : Bool) (seen : List (List ℕ)) (s : List ℕ) (t n : ℕ) where
       go false h = rw (test-unseen (take n (drop t s)) (new (ltb-false (length s - t) n h)))
 
 module _ (lim : Limits) (seen : List (List ℕ)) (s : List ℕ) (p : ℕ)
-    (new : next-name s p ≤ length s → among (text-of s p) seen ≡ false) where
+    (new : name-end s p ≤ length s → among (name-from s p .text) seen ≡ false) where
   abbrev Same : Type 0
   Same = verdict (name lim [] s p) ≡ verdict (name lim seen s p)
 
   by-length : (x q : ℕ) → field 1 type-test s p ≡ got x q → (r : Res ℕ) → field 1 (text-length-test (lim .text)) s q ≡ r → Same
-  unfolding text-of next-name
+  unfolding name-end
   by-length x q e (fault k o) f = sym (length-refused lim [] s p x q e k o f) ∙ length-refused lim seen s p x q e k o f
   by-length x q e (got n t) f =
       let a = type-ends s p x q e in
       let b = length-tells (lim .text) s q n t f in
       let there : t ≡ p + 1 + 1 = b .1 ∙ ap (λ (k : ℕ). k + 1) a in
       let long : n ≡ getD s (p + 1) 0 = b .2 ∙ ap (λ (k : ℕ). getD s k 0) a in
-      let same : take n (drop t s) ≡ text-of s p = (λ i. take (long i) (drop (there i) s)) in
+      let same : take n (drop t s) ≡ name-from s p .text = (λ i. take (long i) (drop (there i) s)) in
       let none : n ≤ length s - t → among (take n (drop t s)) seen ≡ false =
       (λ h. ap (λ (u : List ℕ). among u seen) same ∙ new (omega (arith, h, there, long, b .0))) in
       sym (text-last lim [] s p x q e n t _ f refl)
@@ -123,23 +124,23 @@ module _ (lim : Limits) (seen : List (List ℕ)) (s : List ℕ) (p : ℕ)
 
 -- so only a text whose mark h is set is searched for, among the k names before it: j is how many are searched
 module _ (s : List ℕ) (at k p : ℕ) (m : List ℕ) (h j : ℕ) (ej : j ≡ cond (eqb (getD m h 0) 0) 0 k) where
-  pub searched-behind : p ≡ behind s at k → behind s at j ≤ p
+  pub searched-behind : p ≡ behind (name-end s) at k → behind (name-end s) at j ≤ p
   unfolding behind
   searched-behind e = go (eqb (getD m h 0) 0) ej
     where
-      go : (b : Bool) → j ≡ cond b 0 k → behind s at j ≤ p
-      go true z = omega (arith, ap (behind s at) z, behind-le s at k, e)
-      go false z = omega (arith, ap (behind s at) z, e)
+      go : (b : Bool) → j ≡ cond b 0 k → behind (name-end s) at j ≤ p
+      go true z = omega (arith, ap (behind (name-end s) at) z, behind-on (name-end s) (name-grows s) at k, e)
+      go false z = omega (arith, ap (behind (name-end s) at) z, e)
 
   pub name-searched :
-      (lim : Limits) (v : Next) → Marked m (texts-from s at k) → (next-name s p ≤ length s → h ≡ mark 0 (text-of s p)) →
+      (lim : Limits) (v : Next) → Marked m (texts-from s at k) → (name-end s p ≤ length s → h ≡ mark 0 (name-from s p .text)) →
       v ≡ verdict (name lim (texts-from s at j) s p) → verdict (name lim (texts-from s at k) s p) ≡ v
-  unfolding texts-from
+  unfolding texts-from items
   name-searched lim v g e f = sym (f ∙ ap (λ (i : ℕ). verdict (name lim (texts-from s at i) s p)) ej ∙ go (eqb (getD m h 0) 0) refl)
     where
       go : (b : Bool) → eqb (getD m h 0) 0 ≡ b →
           verdict (name lim (texts-from s at (cond b 0 k)) s p) ≡ verdict (name lim (texts-from s at k) s p)
       go true z =
           name-unseen lim (texts-from s at k) s p
-          (λ w. unmarked m (texts-from s at k) (text-of s p) g (ap (λ (i : ℕ). getD m i 0) (sym (e w)) ∙ eqb-true (getD m h 0) 0 z))
+          (λ w. unmarked m (texts-from s at k) (name-from s p .text) g (ap (λ (i : ℕ). getD m i 0) (sym (e w)) ∙ eqb-true (getD m h 0) 0 z))
       go false z = refl

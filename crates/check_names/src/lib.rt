@@ -18,7 +18,8 @@ ghost use Rattle.record.specs.Tests.{type-test, text-length-test, text-test};
 ghost use Rattle.record.specs.Read.{name, names};
 ghost use Rattle.record.specs.Answer.{verdict};
 ghost use Rattle.read_fields.specs.Answer.{res};
-ghost use Rattle.check_texts.specs.Names.{text-of, next-name, texts-from, behind};
+ghost use Rattle.record.specs.Decode.{behind, name-from, name-end};
+ghost use Rattle.read_layout.specs.Layout.{texts-from};
 ghost use Rattle.check_names.specs.Marks.{mark};
 
 // ---- a name's type and its text's length
@@ -40,23 +41,19 @@ pub fn text_length_test(most: u64, n: u64) -> Test
 }
 
 // The field of a type.
-pub fn type_at(s: &[u8], at: usize) -> Num
+pub fn type_field(s: &[u8], at: usize) -> Num
     ensures { λ r. ⌜ res r ≡ field 1 type-test (now (s .entry)) at ⌝ }
 {
-    match read_fields::one_at(s, at) {
-        Num::Is(x, p) => read_fields::judged(type_test(x), x, p, at),
-        Num::No(k, o) => Num::No(k, o),
-    }
+    let n = read_fields::one_at(s, at);
+    read_fields::tested(n, type_test(read_fields::number(n)), at)
 }
 
 // The field of a text's length, which is at most `most`.
 pub fn text_length_at(s: &[u8], at: usize, most: u64) -> Num
     ensures { λ r. ⌜ res r ≡ field 1 (text-length-test most) (now (s .entry)) at ⌝ }
 {
-    match read_fields::one_at(s, at) {
-        Num::Is(x, p) => read_fields::judged(text_length_test(most, x), x, p, at),
-        Num::No(k, o) => Num::No(k, o),
-    }
+    let n = read_fields::one_at(s, at);
+    read_fields::tested(n, text_length_test(most, read_fields::number(n)), at)
 }
 
 // ---- a name's text
@@ -73,7 +70,7 @@ pub fn may_stand(made: bool, s: &[u8], t: usize, n: usize) -> bool
 
 // The text at t is refused where it is malformed, reserved, or the text of one of the k names from a place on.
 pub fn text_test(lim: Limits, s: &[u8], from: usize, k: u64, t: usize, n: usize) -> Test
-    requires { ⌜ (0 < n) × (t + n ≤ length (now s)) × (behind (now s) from k ≤ length (now s)) ⌝ }
+    requires { ⌜ (0 < n) × (t + n ≤ length (now s)) × (behind (name-end (now s)) from k ≤ length (now s)) ⌝ }
     ensures { λ r. ⌜ r ≡ text-test (lim .made) (texts-from (now (s .entry)) from k) (take n (drop t (now (s .entry)))) ⌝ }
 {
     if !check_texts::well_formed(s, t, n) {
@@ -87,7 +84,7 @@ pub fn text_test(lim: Limits, s: &[u8], from: usize, k: u64, t: usize, n: usize)
 
 // The field of the text at t: past the end of the bytes, or refused by its test, or the place behind it.
 pub fn text_at(lim: Limits, s: &[u8], from: usize, k: u64, t: usize, n: usize) -> Next
-    requires { ⌜ (0 < n) × (behind (now s) from k ≤ t) ⌝ }
+    requires { ⌜ (0 < n) × (behind (name-end (now s)) from k ≤ t) ⌝ }
     ensures { λ r. ⌜ r ≡ verdict (text n (text-test (lim .made) (texts-from (now (s .entry)) from k)) (now (s .entry)) t) ⌝ }
 {
     if read_fields::left(s, t) < n {
@@ -118,7 +115,7 @@ pub fn mark_of(s: &[u8], t: usize, n: usize) -> usize
 
 // The mark of the text of the name at p; any mark where the bytes end before the text does.
 pub fn mark_at(s: &[u8], p: usize) -> usize
-    ensures { λ r. ⌜ (r < 2048) × (next-name (now (s .entry)) p ≤ length (now (s .entry)) → r ≡ mark 0 (text-of (now (s .entry)) p)) ⌝ }
+    ensures { λ r. ⌜ (r < 2048) × (name-end (now (s .entry)) p ≤ length (now (s .entry)) → r ≡ mark 0 (name-from (now (s .entry)) p .text)) ⌝ }
 {
     if read_fields::left(s, p) < 2 {
         return 0;
@@ -141,10 +138,10 @@ pub fn to_search(m: u8, k: u64) -> u64
 // ---- names
 // The name at p, with k names before it from a place on.
 pub fn name_at(lim: Limits, s: &[u8], from: usize, k: u64, p: usize) -> Next
-    requires { ⌜ behind (now s) from k ≤ p ⌝ }
+    requires { ⌜ behind (name-end (now s)) from k ≤ p ⌝ }
     ensures { λ r. ⌜ r ≡ verdict (name lim (texts-from (now (s .entry)) from k) (now (s .entry)) p) ⌝ }
 {
-    match type_at(s, p) {
+    match type_field(s, p) {
         Num::Is(_, q) => match text_length_at(s, q, lim.text) {
             Num::Is(n, t) => text_at(lim, s, from, k, t, n as usize),
             Num::No(r, o) => Next::Refused(r, o),

@@ -6,7 +6,6 @@ use record::Refusal;
 use record::Test;
 ghost use mathlib.Core.Path.{_≡_};
 ghost use Rattle.record.specs.Reader.{field};
-ghost use Rattle.record.specs.Record.{id-bytes};
 ghost use Rattle.record.specs.Tests.{length-test, version-test, names-test};
 ghost use Rattle.record.specs.Read.{length-field, end, contents, read};
 ghost use Rattle.record.specs.Answer.{verdict};
@@ -55,20 +54,16 @@ pub fn length_at(s: &[u8], at: usize) -> Num
 pub fn version_at(s: &[u8], at: usize) -> Num
     ensures { λ r. ⌜ res r ≡ field 1 version-test (now (s .entry)) at ⌝ }
 {
-    match read_fields::one_at(s, at) {
-        Num::Is(x, p) => read_fields::judged(version_test(x), x, p, at),
-        Num::No(k, o) => Num::No(k, o),
-    }
+    let n = read_fields::one_at(s, at);
+    read_fields::tested(n, version_test(read_fields::number(n)), at)
 }
 
 // N, where A is args.
 pub fn name_count_at(s: &[u8], at: usize, most: u64, args: u64) -> Num
     ensures { λ r. ⌜ res r ≡ field 2 (names-test most args) (now (s .entry)) at ⌝ }
 {
-    match read_fields::two_at(s, at) {
-        Num::Is(x, p) => read_fields::judged(names_test(most, args, x), x, p, at),
-        Num::No(k, o) => Num::No(k, o),
-    }
+    let n = read_fields::two_at(s, at);
+    read_fields::tested(n, names_test(most, args, read_fields::number(n)), at)
 }
 
 // The end: no byte is left over.
@@ -79,13 +74,6 @@ pub fn end_at(s: &[u8], at: usize) -> Next
         return Next::Refused(Refusal::Length, at);
     }
     Next::At(at)
-}
-
-// The bytes of an id in a record of this version.
-pub fn id_bytes(version: u64) -> usize
-    ensures { λ r. ⌜ r ≡ id-bytes version ⌝ }
-{
-    4
 }
 
 // ---- the record
@@ -109,7 +97,7 @@ pub fn contents_at(s: &[u8], at: usize, lim: Limits) -> Next
     match version_at(s, at) {
         Num::Is(v, p) => match read_fields::one_limited(s, p, 16) {
             Num::Is(a, q) => match name_count_at(s, q, lim.names, a) {
-                Num::Is(n, t) => names_and_blocks_at(s, t, lim, id_bytes(v), n),
+                Num::Is(n, t) => names_and_blocks_at(s, t, lim, read_layout::id_bytes(v), n),
                 Num::No(k, o) => Next::Refused(k, o),
             },
             Num::No(k, o) => Next::Refused(k, o),

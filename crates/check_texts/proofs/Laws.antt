@@ -1,5 +1,5 @@
 -- The turns of the loops over a text's bytes and over the names before it.
-use Prim.Native.Nat.{ℕ, zero, suc, _+_, _-_, _<_, _≤_}
+use Prim.Native.Nat.{ℕ, suc, _+_, _-_, _<_, _≤_}
 use mathlib.Core.Path.{_≡_, refl, sym, ap, _∙_}
 use mathlib.Core.List.{List, _∷_}
 use mathlib.Core.Bool.{Bool, true, false, cond, _&&_, _||_}
@@ -9,7 +9,9 @@ use lib.Seq.{getD-take, getD-drop}
 use lib.Dec.{ltb, leb, eqb}
 use borrow.Author.Tests.{lt-ltb, le-ltb, lt-leb, le-leb, eq-eqb, ne-eqb}
 use Rattle.record.specs.Text.{digit, letter, all-text, well-formed, undigited, ends-lvn, reserved, same-bytes, among}
-use Rattle.check_texts.specs.Names.{text-of, next-name, texts-from, behind}
+use Rattle.record.specs.Decode.{items, behind, name-from, name-end}
+use Rattle.read_layout.specs.Layout.{texts-from}
+use Rattle.record.proofs.Rows.{name-grows, one-more, behind-on, behind-went}
 use Rattle.check_texts.proofs.Bytes.{part-length, part-byte, part-first, unequal}
 
 -- ---- the bytes of a text; x: the first
@@ -132,43 +134,31 @@ part-done s p q n z = rw z
 
 -- ---- a text and the text of the name at p; x: the name's length
 module _ (s : List ℕ) (p t n x : ℕ) (ex : x ≡ getD s (p + 1) 0) where
-  pub name-other : t + n ≤ length s → next-name s p ≤ length s → (x ≡ n → ⊥) → false ≡ same-bytes (take n (drop t s)) (text-of s p)
-  unfolding next-name text-of
+  pub name-other : t + n ≤ length s → name-end s p ≤ length s → (x ≡ n → ⊥) → false ≡ same-bytes (take n (drop t s)) (name-from s p .text)
+  unfolding name-end
   name-other f g d =
       unequal (take n (drop t s)) _
       (λ e. d (ex ∙ sym (part-length s (p + 1 + 1) (getD s (p + 1) 0) g) ∙ sym e ∙ part-length s t n f))
 
-  pub name-same : x ≡ n → same-bytes (take n (drop t s)) (take n (drop (p + 1 + 1) s)) ≡ same-bytes (take n (drop t s)) (text-of s p)
-  unfolding text-of
+  pub name-same : x ≡ n → same-bytes (take n (drop t s)) (take n (drop (p + 1 + 1) s)) ≡ same-bytes (take n (drop t s)) (name-from s p .text)
   name-same e = ap (λ (k : ℕ). same-bytes (take n (drop t s)) (take k (drop (p + 1 + 1) s))) (sym e ∙ ex)
 
 -- ---- the names before a text
-pub behind-le : (s : List ℕ) (p k : ℕ) → p ≤ behind s p k
-unfolding behind next-name
-behind-le s p zero = omega arith
-behind-le s p (suc k) = omega (arith, behind-le s (next-name s p) k)
-
 module _ (s : List ℕ) (p left : ℕ) (z : 0 < left) where
-  one-more : left ≡ suc (left - 1)
-  one-more = omega arith
+  pub next-within : (m : ℕ) → behind (name-end s) p left ≤ m → name-end s p ≤ m
+  next-within m h =
+      omega (arith, behind-on (name-end s) (name-grows s) (name-end s p) (left - 1), behind-went (name-end s) p left z _ refl)
 
-  pub behind-next : behind s (next-name s p) (left - 1) ≡ behind s p left
-  unfolding behind
-  behind-next = sym (ap (behind s p) one-more)
-
-  pub next-within : (m : ℕ) → behind s p left ≤ m → next-name s p ≤ m
-  next-within m h = omega (arith, behind-le s (next-name s p) (left - 1), behind-next)
-
-  pub used-hit : (t : List ℕ) → same-bytes t (text-of s p) ≡ true → true ≡ among t (texts-from s p left)
-  unfolding among texts-from
-  used-hit t e = sym (ap (λ (k : ℕ). among t (texts-from s p k)) one-more ∙ rw e)
+  pub used-hit : (t : List ℕ) → same-bytes t (name-from s p .text) ≡ true → true ≡ among t (texts-from s p left)
+  unfolding among texts-from items
+  used-hit t e = sym (ap (λ (k : ℕ). among t (texts-from s p k)) (one-more left z) ∙ rw e)
 
   pub used-miss :
-      (t : List ℕ) → same-bytes t (text-of s p) ≡ false →
-      among t (texts-from s (next-name s p) (left - 1)) ≡ among t (texts-from s p left)
-  unfolding among texts-from
-  used-miss t e = sym (ap (λ (k : ℕ). among t (texts-from s p k)) one-more ∙ rw e)
+      (t : List ℕ) → same-bytes t (name-from s p .text) ≡ false →
+      among t (texts-from s (name-end s p) (left - 1)) ≡ among t (texts-from s p left)
+  unfolding among texts-from items
+  used-miss t e = sym (ap (λ (k : ℕ). among t (texts-from s p k)) (one-more left z) ∙ rw e)
 
 pub used-none : (s : List ℕ) (p left : ℕ) (t : List ℕ) → left ≡ 0 → false ≡ among t (texts-from s p left)
-unfolding among texts-from
+unfolding among texts-from items
 used-none s p left t z = sym (ap (λ (k : ℕ). among t (texts-from s p k)) z)

@@ -5,7 +5,8 @@ ghost use mathlib.Core.Bool.{_||_};
 ghost use Prim.Native.Nat.{_+_, _<_, _≤_};
 ghost use lib.ListN.{length, take, drop};
 ghost use Rattle.record.specs.Text.{digit, letter, all-text, well-formed, undigited, ends-lvn, reserved, same-bytes, among};
-ghost use Rattle.check_texts.specs.Names.{next-name, text-of, texts-from, behind};
+ghost use Rattle.record.specs.Decode.{behind, name-from, name-end};
+ghost use Rattle.read_layout.specs.Layout.{texts-from};
 
 // 0 to 9.
 pub fn digit(b: u64) -> bool
@@ -142,8 +143,8 @@ pub fn same_part(s: &[u8], a: usize, b: usize, n: usize) -> bool
 
 // Whether the name at p has the text at t.
 pub fn same_name(s: &[u8], p: usize, t: usize, n: usize) -> bool
-    requires { ⌜ (t + n ≤ length (now s)) × (next-name (now s) p ≤ length (now s)) ⌝ }
-    ensures { λ r. ⌜ r ≡ same-bytes (take n (drop t (now (s .entry)))) (text-of (now (s .entry)) p) ⌝ }
+    requires { ⌜ (t + n ≤ length (now s)) × (name-end (now s) p ≤ length (now s)) ⌝ }
+    ensures { λ r. ⌜ r ≡ same-bytes (take n (drop t (now (s .entry)))) (name-from (now (s .entry)) p .text) ⌝ }
 {
     if byte_or(s, p + 1) as usize != n {
         return false;
@@ -151,17 +152,9 @@ pub fn same_name(s: &[u8], p: usize, t: usize, n: usize) -> bool
     same_part(s, t, p + 1 + 1, n)
 }
 
-// The place behind the name at p.
-pub fn next_name(s: &[u8], p: usize) -> usize
-    requires { ⌜ next-name (now s) p ≤ length (now s) ⌝ }
-    ensures { λ r. ⌜ r ≡ next-name (now (s .entry)) p ⌝ }
-{
-    p + 1 + 1 + (byte_or(s, p + 1) as usize)
-}
-
 // Whether one of the k names from a place on has the text at t.
 pub fn used_in(s: &[u8], from: usize, k: u64, t: usize, n: usize) -> bool
-    requires { ⌜ (t + n ≤ length (now s)) × (behind (now s) from k ≤ length (now s)) ⌝ }
+    requires { ⌜ (t + n ≤ length (now s)) × (behind (name-end (now s)) from k ≤ length (now s)) ⌝ }
     ensures { λ r. ⌜ r ≡ among (take n (drop t (now (s .entry)))) (texts-from (now (s .entry)) from k) ⌝ }
 {
     let mut p = from;
@@ -170,7 +163,7 @@ pub fn used_in(s: &[u8], from: usize, k: u64, t: usize, n: usize) -> bool
         if same_name(s, p, t, n) {
             return true;
         }
-        p = next_name(s, p);
+        p = read_layout::name_end(s, p);
         left -= 1;
     }
     false

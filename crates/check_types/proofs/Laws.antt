@@ -1,61 +1,21 @@
--- The turns of the second pass: where an instruction's parts end, one instruction and one block of those left, one name's type.
-use Prim.Native.Nat.{ℕ, suc, _+_, _-_, _*_, _<_, _≤_}
+-- The turns of the second pass: one instruction and one block of those left.
+use Prim.Native.Nat.{ℕ, suc, _+_, _-_, _<_, _≤_}
 use mathlib.Core.Path.{_≡_, refl, sym, ap, _∙_}
 use mathlib.Core.List.{List, [], _∷_}
-use mathlib.Core.Bool.{Bool, true, false, cond, not}
+use mathlib.Core.Bool.{Bool, true, false, not}
 use native.Mathlib.Omega.{arith}
-use lib.ListN.{getD, set}
-use lib.Seq.{sets}
 use Rattle.arith.proofs.Clash.{clash}
 use Rattle.record.specs.declared.NameIx.{NameIx}
-use Rattle.record.specs.declared.Shape.{Shape}
 use Rattle.record.specs.declared.Refusal.{Refusal}
 use Rattle.record.specs.declared.Refusal.the-variants.{Types}
 use Rattle.record.specs.declared.Next.{Next}
 use Rattle.record.specs.declared.Next.the-variants.{At, Refused}
 use Rattle.record.specs.Record.{Placed, type-in}
-use Rattle.record.specs.Shape.{shape-of}
 use Rattle.record.specs.Reader.{Res, got, refuse, num-at}
 use Rattle.record.specs.Typing.{well-typed, body-types, block-types}
 use Rattle.record.specs.Answer.{verdict}
-use Rattle.record.specs.Decode.{items, behind, two-on, lit-at, count-at, callee-at, targets-at, operands-end, instr-from, placed-from, instr-end, body-from, block-from, block-end, name-end}
-use Rattle.record.proofs.Decode.{behind-two}
-use Rattle.check_types.specs.Passes.{types-from, body-verdict, block-verdict, blocks-verdict}
-
--- ---- ends
-pub past-args : (at n m : ℕ) → m ≡ n → at + 1 + 2 * m ≡ behind two-on (at + 1) n
-past-args at n m e = ap (λ (k : ℕ). at + 1 + 2 * k) e ∙ sym (behind-two (at + 1) n)
-
--- the parts of the operands, each from where the one before it ends
-pub operands-past :
-    (sh : Shape) (s : List ℕ) (at l c a t r : ℕ) →
-    l ≡ cond (sh .dest) (at + 2) at →
-    c ≡ cond (sh .literal) (l + 9) l →
-    a ≡ cond (not (sh .literal)) (behind two-on (c + 1) (num-at s c 1)) c →
-    t ≡ cond (sh .callee) (a + 2) a →
-    r ≡ t + 2 * sh .blocks →
-    r ≡ operands-end sh s at
-unfolding operands-end lit-at count-at callee-at targets-at
-operands-past sh s at l c a t r el ec ea et er =
-    let c′ : c ≡ count-at sh s at =
-    ec ∙ ap (λ (k : ℕ). cond (sh .literal) k l) (omega arith) ∙ ap (λ (k : ℕ). cond (sh .literal) (k + 1 + 8) k) el in
-    let a′ : a ≡ callee-at sh s at = ea ∙ ap (λ (k : ℕ). cond (not (sh .literal)) (behind two-on (k + 1) (num-at s k 1)) k) c′ in
-    let t′ : t ≡ targets-at sh s at = et ∙ ap (λ (k : ℕ). cond (sh .callee) (k + 2) k) a′ in
-    er ∙ ap (λ (k : ℕ). k + 2 * sh .blocks) t′ ∙ sym (behind-two (targets-at sh s at) (sh .blocks))
-
--- c: the code of the instruction, sh: its shape
-pub instr-past :
-    (w : ℕ) (s : List ℕ) (at c r : ℕ) (sh : Shape) →
-    c ≡ num-at s (at + w) 1 →
-    sh ≡ shape-of c →
-    r ≡ operands-end sh s (at + w + 1) →
-    r ≡ instr-end w s at
-unfolding instr-end
-instr-past w s at c r sh ec es er = er ∙ ap (λ (z : Shape). operands-end z s (at + w + 1)) (es ∙ ap shape-of ec)
-
-pub name-past : (s : List ℕ) (at n : ℕ) → n ≡ getD s (at + 1) 0 → at + 1 + 1 + n ≡ name-end s at
-unfolding name-end
-name-past s at n e = ap (λ (k : ℕ). at + 1 + 1 + k) e
+use Rattle.record.specs.Decode.{items, behind, instr-from, placed-from, instr-end, body-from, block-from, block-end}
+use Rattle.check_types.specs.Passes.{body-verdict, block-verdict, blocks-verdict}
 
 -- ---- places
 pub at-place : (p m q : ℕ) → p ≤ m → At p ≡ At q → q ≤ m
@@ -67,7 +27,7 @@ no-place k o m q e = clash (cc)
 -- ---- what follows a body
 module _ (t : NameIx → ℕ) where
   -- a body that passes changes nothing of what follows it
-  pub body-passes :
+  body-passes :
       {A B : Type 0} (is : List Placed) (x : A) (e q : ℕ) (next : Res B) → verdict (body-types t is (got x e)) ≡ At q →
       (q ≡ e) × (body-types t is next ≡ next)
   unfolding body-types
@@ -82,7 +42,7 @@ module _ (t : NameIx → ℕ) where
       go rest false h = clash (cc)
 
   -- one that stops, stops whatever follows it
-  pub body-stops :
+  body-stops :
       {A B : Type 0} (is : List Placed) (x : A) (e : ℕ) (k : Refusal) (o : ℕ) (next : Res B) →
       verdict (body-types t is (got x e)) ≡ Refused k o →
       verdict (body-types t is next) ≡ Refused k o
@@ -159,30 +119,3 @@ pub block-is :
     r ≡ block-verdict w types s at
 unfolding body-verdict block-verdict body-from block-end
 block-is w types s at n r e h = h ∙ ap (body-verdict w types s (at + 2 + 2)) e
-
--- ---- the names' types
-module _ (s : List ℕ) (p left : ℕ) (h : 0 < left) where
-  some-left : left ≡ suc (left - 1)
-  some-left = omega arith
-
-  pub names-next : (q : ℕ) → q ≡ name-end s p → behind (name-end s) q (left - 1) ≡ behind (name-end s) p left
-  unfolding behind
-  names-next q e = ap (λ (k : ℕ). behind (name-end s) k (left - 1)) e ∙ sym (ap (behind (name-end s) p) some-left)
-
-  -- m: the table with one entry more
-  pub types-went :
-      (l m : List ℕ) (i v q : ℕ) → m ≡ set l i v → v ≡ getD s p 0 → q ≡ name-end s p →
-      sets m (i + 1) (types-from s q (left - 1)) ≡ sets l i (types-from s p left)
-  unfolding types-from items
-  types-went l m i v q em ev eq =
-      let j : i + 1 ≡ suc i = omega arith in
-      let first : types-from s p left ≡ getD s p 0 ∷ types-from s (name-end s p) (left - 1) = ap (types-from s p) some-left in
-      rw (em, ev, eq, j, first)
-
-pub names-done : (s : List ℕ) (p left : ℕ) → left ≡ 0 → p ≡ behind (name-end s) p left
-unfolding behind
-names-done s p left z = sym (ap (behind (name-end s) p) z)
-
-pub types-done : (s l : List ℕ) (i p left : ℕ) → left ≡ 0 → l ≡ sets l i (types-from s p left)
-unfolding types-from items
-types-done s l i p left z = sym (ap (λ (k : ℕ). sets l i (types-from s p k)) z)

@@ -1,16 +1,12 @@
 -- What the second pass answers by the bytes alone: the place behind what it looked at, or the first instruction that breaks its rule.
 use Prim.Native.Nat.{ℕ}
-use mathlib.Core.List.{List, map}
+use mathlib.Core.List.{List}
 use Rattle.record.specs.declared.Next.{Next}
 use Rattle.record.specs.Record.{type-in}
 use Rattle.record.specs.Reader.{got}
 use Rattle.record.specs.Typing.{body-types, block-types}
 use Rattle.record.specs.Answer.{verdict}
-use Rattle.record.specs.Decode.{items, behind, placed-from, instr-end, body-from, block-from, block-end, name-from, name-end}
-
--- the types of the n names from a place on
-unfoldable pub types-from : List ℕ → ℕ → ℕ → List ℕ
-types-from s at n = map (λ x. x .type) (items (name-from s) (name-end s) at n)
+use Rattle.record.specs.Decode.{items, behind, placed-from, instr-end, body-from, block-from, block-end}
 
 -- w: the bytes of an id; types: the type of each name
 module _ (w : ℕ) (types s : List ℕ) where

@@ -4,7 +4,7 @@ use mathlib.Core.Path.{_≡_, refl, sym, ap, _∙_}
 use mathlib.Core.List.{List, [], _∷_, _++_}
 use mathlib.Core.Bool.{Bool, true, false, not}
 use native.Mathlib.Omega.{arith}
-use lib.ListN.{length, getD, drop, replicate, length-map, length-replicate}
+use lib.ListN.{length, getD, drop, replicate, length-replicate}
 use lib.Seq.{sets, sets-eq, getD-drop}
 use Rattle.arith.proofs.Clash.{clash}
 use Rattle.record.specs.declared.NameIx.{NameIx}
@@ -13,16 +13,20 @@ use Rattle.record.specs.declared.Refusal.the-variants.{Types}
 use Rattle.record.specs.declared.Next.{Next}
 use Rattle.record.specs.declared.Next.the-variants as next
 use Rattle.record.specs.declared.Checked.the-variants.{Refused}
-use Rattle.record.specs.Record.{Placed, Block, Name, Record, type-in, function, plain, limits, id-bytes}
-use Rattle.record.specs.Reader.{Res, got, fault, refuse, then, num-at}
+use Rattle.record.specs.Record.{Placed, Block, Record, type-in, function, plain, limits}
+use Rattle.record.specs.Reader.{Res, got, fault, refuse, then}
 use Rattle.record.specs.Read.{read}
 use Rattle.record.specs.Typing.{well-typed, body-types, block-types, accept}
 use Rattle.record.specs.Answer.{verdict, checked-as, checked}
-use Rattle.record.specs.Decode.{items, behind, name-from, name-end, names-count, names-end, blocks-end, record-from}
+use Rattle.record.specs.Again.{types-in}
+use Rattle.record.specs.Decode.{name-from, name-end, names-count, blocks-end, record-from}
 use Rattle.record.proofs.Tests.{names-limit}
 use Rattle.record.proofs.Accepted.{read-ok}
 use Rattle.record.proofs.Decode.{length-items, read-decodes}
-use Rattle.check_types.specs.Passes.{types-from, blocks-verdict}
+use Rattle.read_layout.specs.declared.Layout.{Layout}
+use Rattle.read_layout.specs.Layout.{types-from, layout-of}
+use Rattle.read_layout.proofs.Tables.{types-are, length-types}
+use Rattle.check_types.specs.Passes.{blocks-verdict}
 use Rattle.checker.specs.Pass.{typed-verdict, as-checked}
 
 -- ---- the table
@@ -49,36 +53,22 @@ table-types m ts h x =
     ap (λ (l : List ℕ). getD l (x .0) 0) (sets-eq ts (zeros m) 0 room)
     ∙ zeros-behind ts rest (λ y. getD-drop (0 + length ts) (zeros m) y 0 ∙ zeros-at m (0 + length ts + y)) (x .0)
 
-length-types : (s : List ℕ) (at n : ℕ) → length (types-from s at n) ≡ n
-unfolding types-from
-length-types s at n =
-    length-map (items (name-from s) (name-end s) at n) (λ (x : Name). x .type) ∙ length-items (name-from s) (name-end s) n at
-
--- an id has few bytes
-pub few-id-bytes : (v w : ℕ) → w ≡ id-bytes v → w ≤ 8
-unfolding id-bytes
-few-id-bytes v w e = omega arith
-
--- ---- the second pass; v: the version, n: the number of names, at: where they end, b: the number of blocks
+-- ---- the second pass; l: what the head says
 pub typed-is :
-    (s table : List ℕ) (v w n at b : ℕ) (r : Next) →
-    v ≡ num-at s 4 1 → w ≡ id-bytes v → n ≡ names-count s → at ≡ behind (name-end s) 8 n →
-    table ≡ sets (zeros 256) 0 (types-from s 8 n) → b ≡ num-at s at 2 →
-    r ≡ blocks-verdict w table s (at + 2) b →
+    (s table : List ℕ) (l : Layout) (r : Next) →
+    l ≡ layout-of s →
+    table ≡ sets (zeros 256) 0 (types-from s 8 (names-count s)) →
+    r ≡ blocks-verdict (l .width) table s (l .end + 2) (l .blocks) →
     names-count s ≤ 256 →
     r ≡ typed-verdict s
-unfolding typed-verdict record-from blocks-end names-end blocks-verdict types-from
-typed-is s table v w n at b r ev ew en ea et eb er h =
-    let w′ : w ≡ id-bytes (num-at s 4 1) = ew ∙ ap id-bytes ev in
-    let a′ : at ≡ names-end s = ea ∙ ap (behind (name-end s) 8) en in
-    let b′ : b ≡ num-at s (names-end s) 2 = eb ∙ ap (λ (k : ℕ). num-at s k 2) a′ in
-    let ts = types-from s 8 (names-count s) in
-    let room : length ts ≤ 256 = omega (arith, length-types s 8 (names-count s), h) in
-    let table′ : table ≡ sets (zeros 256) 0 ts = et ∙ ap (λ (k : ℕ). sets (zeros 256) 0 (types-from s 8 k)) en in
+unfolding typed-verdict record-from blocks-end blocks-verdict layout-of
+typed-is s table l r el et er h =
+    let ts = types-in s in
+    let room : length ts ≤ 256 = omega (arith, ap length (types-are s), length-types s 8 (names-count s), h) in
     let t : (x : NameIx) → type-in table x ≡ type-in ts x =
-    λ x. ap (λ (l : List ℕ). type-in l x) table′ ∙ table-types 256 ts room x in
+    λ x. ap (λ (l : List ℕ). type-in l x) (et ∙ ap (sets (zeros 256) 0) (types-are s)) ∙ table-types 256 ts room x in
     er
-    ∙ (λ i. blocks-verdict (w′ i) table s (a′ i + 2) (b′ i))
+    ∙ ap (λ (k : Layout). blocks-verdict (k .width) table s (k .end + 2) (k .blocks)) el
     ∙ ap
     (λ (f : NameIx → ℕ). verdict (block-types {A = Unit {0}} f (record-from s .blocks) (got tt (blocks-end s))))
     (λ i x. t x i)

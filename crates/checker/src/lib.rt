@@ -29,11 +29,9 @@ pub fn typed(s: &[u8]) -> Next
     ensures { λ r. ⌜ (names-count (now (s .entry)) ≤ 256 → r ≡ typed-verdict (now (s .entry))) ⌝ }
 {
     let mut types = [0u8; 256];
-    let w = check_record::id_bytes(read_fields::byte_or(s, 4));
-    let n = read_fields::be16(s, 6);
-    let at = check_types::fill_types(s, &mut types, n, 8);
-    let b = read_fields::be16(s, at);
-    check_types::typed_blocks(s, &types, w, b, at + 2)
+    let mut places = [0u32; 0];
+    let head = read_layout::layout_of(s, &mut types, &mut places);
+    check_types::typed_blocks(s, &types, head.width, head.blocks, head.end + 2)
 }
 
 // The answer, with the place behind the record forgotten.

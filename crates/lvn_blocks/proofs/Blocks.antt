@@ -10,7 +10,7 @@ use Rattle.record.specs.Write.{join, block-bytes}
 use Rattle.record.specs.Decode.{items, block-end}
 use Rattle.record.specs.Again.{block-in, blocks-in, BlocksPass}
 use Rattle.record.specs.Sizes.{longest-block, longest-block-lines, places-end}
-use Rattle.record.proofs.Again.{one-more}
+use Rattle.record.proofs.Rows.{one-more}
 use Rattle.numbering.specs.Number.{Numbered, blocks-lvn, count-saves, saved-in, made-from}
 use Rattle.numbering.proofs.Made.{saved-in-length}
 use Rattle.write_bytes.specs.Put.{Wrote}

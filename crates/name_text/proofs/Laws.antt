@@ -236,7 +236,7 @@ module _ (a r : List ℕ) (i : ℕ) where
       go (got x p) e = clash (cc)
       go (fault k′ o′) e = cc
 
-  pub input-accepted : (v : ℕ) → checked a ≡ checks.Accepted → v ≡ num-at a 4 1 →
+  input-accepted : (v : ℕ) → checked a ≡ checks.Accepted → v ≡ num-at a 4 1 →
       cond (headed v r) (from-parts i (parts-of false a) (parts-of true r)) (refused Mismatch) ≡ name-text a r i
   unfolding checked name-text with-input record-from
   input-accepted v e ev = go (accept limits a) refl e

@@ -5,14 +5,11 @@ use record::Checked;
 use record::Next;
 use record::Refusal;
 ghost use mathlib.Core.Path.{_≡_};
-ghost use mathlib.Core.Bool.{Bool, true, false, cond};
-ghost use Prim.Native.Nat.{ℕ, _+_, _*_, _<_, _≤_};
-ghost use lib.ListN.{length};
+ghost use mathlib.Core.Bool.{Bool, true, false};
+ghost use Prim.Native.Nat.{ℕ, _+_, _<_, _≤_};
 ghost use denote.Ref.{ptr};
-ghost use Rattle.record.specs.Reader.{num-at};
 ghost use Rattle.record.specs.Answer.{verdict};
 ghost use Rattle.record.specs.declared.Next.the-variants.{At};
-ghost use Rattle.record.specs.Decode.{behind, name-end, names-count};
 ghost use Rattle.numbering.specs.NameText.{name-part, parts-of, headed, refused, from-parts, name-text, bytes-of};
 ghost use Rattle.name_text.specs.Found.{found, within, part-from, starts-at};
 
@@ -26,7 +23,7 @@ pub struct Found {
 
 // ---- the names of a record
 // Where the name at p ends, or its field that runs past the end.
-pub fn name_at(s: &[u8], p: usize) -> Next
+pub fn name_within(s: &[u8], p: usize) -> Next
     ensures { λ r. ⌜ ((b : Bool) → r ≡ verdict (name-part b (now (s .entry)) p)) ⌝ }
 {
     match read_fields::one_at(s, p) {
@@ -39,13 +36,13 @@ pub fn name_at(s: &[u8], p: usize) -> Next
 }
 
 // Where the names end, or the first field of them that runs past the end.
-pub fn names_at(s: &[u8]) -> Next
+pub fn names_within(s: &[u8]) -> Next
     ensures { λ r. ⌜ ((b : Bool) → r ≡ verdict (parts-of b (now (s .entry)))) ⌝ }
 {
     let mut p: usize = 8;
     let mut left = read_fields::be16(s, 6);
     while left > 0 {
-        match name_at(s, p) {
+        match name_within(s, p) {
             Next::At(next) => {
                 p = next;
             }
@@ -56,20 +53,6 @@ pub fn names_at(s: &[u8]) -> Next
         left -= 1;
     }
     Next::At(p)
-}
-
-// The place of a name.
-pub fn place_of(s: &[u8], index: usize) -> usize
-    requires { ⌜ index < 65536 ⌝ }
-    ensures { λ r. ⌜ (r ≡ behind (name-end (now (s .entry))) 8 index) × (r ≤ 8 + 257 * index) ⌝ }
-{
-    let mut p: usize = 8;
-    let mut left = index;
-    while left > 0 {
-        p = check_types::name_end(s, p);
-        left -= 1;
-    }
-    p
 }
 
 // ---- what is found
@@ -90,7 +73,9 @@ pub fn text_in(s: &[u8], rewriting: bool, index: usize) -> Found
     requires { ⌜ index < 65536 ⌝ }
     ensures { λ r. ⌜ found r ≡ part-from rewriting (now (s .entry)) index ⌝ }
 {
-    let p = place_of(s, index);
+    let mut types = [0u8; 0];
+    let mut places = [0u32; 0];
+    let p = read_layout::fill_names(s, &mut types, &mut places, index, 8);
     Found {
         answer: Named::Text,
         rewriting,
@@ -138,8 +123,8 @@ pub fn both(input: &[u8], rewriting: &[u8], index: usize) -> Found
     ensures { λ r. ⌜ (found r ≡ from-parts index (parts-of false (now (input .entry))) (parts-of true (now (rewriting .entry))))
         × within r (now (input .entry)) (now (rewriting .entry)) ⌝ }
 {
-    match names_at(input) {
-        Next::At(_) => match names_at(rewriting) {
+    match names_within(input) {
+        Next::At(_) => match names_within(rewriting) {
             Next::At(_) => chosen(input, rewriting, index),
             Next::Refused(_, _) => refused(Named::Mismatch),
         },

@@ -13,12 +13,10 @@ use Rattle.record.specs.Again.{instrs-from, instrs-end, Passing, block-i
 use Rattle.record.proofs.Tests.{at-most-le, names-limit, names-args}
 use Rattle.record.proofs.Accepted.{read-ok}
 use Rattle.record.proofs.Decode.{length-items, read-decodes}
+use Rattle.record.proofs.Rows.{one-more, behind-on, name-grows, map-items}
 use Rattle.record.proofs.Inside.{names-inside}
 
 -- ---- instructions in a row
-pub one-more : (n : ℕ) → 0 < n → n ≡ suc (n - 1)
-one-more n h = omega arith
-
 module _ (w : ℕ) (s : List ℕ) (p n : ℕ) (h : 0 < n) where
   pub instrs-more : instrs-from w s p n ≡ instr-from w s p ∷ instrs-from w s (instr-end w s p) (n - 1)
   unfolding instrs-from items
@@ -33,20 +31,14 @@ passing-all N B [] h = tt
 passing-all N B (i ∷ is) h = (record { blocks = B; left = length is; ok = h .0 }, passing-all N B is (h .1))
 
 -- ---- the blocks that were accepted
-items-plain :
-    (w : ℕ) (s : List ℕ) (n p : ℕ) →
-    map plain-block (items (block-from w s) (block-end w s) p n) ≡ items (block-in w s) (block-end w s) p n
-unfolding items
-items-plain w s zero p = refl
-items-plain w s (suc n) p = ap (λ (bs : List (Block Instr)). block-in w s p ∷ bs) (items-plain w s n (block-end w s p))
-
 -- B stands behind the names, the blocks behind B
 abbrev pub blocks-of : List ℕ → List (Block Instr)
 blocks-of s = blocks-in (id-width s) s (names-end s + 2) (num-at s (names-end s) 2)
 
 pub blocks-again : (s : List ℕ) → plain (record-from s) .blocks ≡ blocks-of s
 unfolding record-from blocks-in
-blocks-again s = items-plain (id-width s) s (num-at s (names-end s) 2) (names-end s + 2)
+blocks-again s =
+    map-items plain-block (block-from (id-width s) s) (block-end (id-width s) s) (num-at s (names-end s) 2) (names-end s + 2)
 
 module _ (s : List ℕ) (r : Record Placed) (p : ℕ) (e : read limits s 0 ≡ got r p) where
   pub record-again : r ≡ record-from s
@@ -61,11 +53,6 @@ module _ (s : List ℕ) (r : Record Placed) (p : ℕ) (e : read limits s 0 ≡ g
       (record { blocks = length (plain r .blocks); each = read-ok limits s r p e .blocks })
 
 -- ---- its fields, by their places
-pub behind-on : (s : List ℕ) (n at : ℕ) → at ≤ behind (name-end s) at n
-unfolding behind name-end
-behind-on s zero at = omega arith
-behind-on s (suc n) at = let h : name-end s at ≤ behind (name-end s) (name-end s at) n = behind-on s n (name-end s at) in omega arith
-
 pub version-in : (s : List ℕ) → record-in s .version ≡ num-at s 4 1
 unfolding record-from
 version-in s = refl
@@ -114,7 +101,7 @@ module _ {s : List ℕ} {end : ℕ} (h : Reads s end) where
 
   pub names-on : 8 ≤ end
   unfolding names-end
-  names-on = rw (h .names) (behind-on s (names-count s) 8)
+  names-on = rw (h .names) (behind-on (name-end s) (name-grows s) 8 (names-count s))
 
   pub names-lie : names-end s ≤ length s
   names-lie = omega (arith, names-inside limits s (h .it) (h .behind) (h .reads))

@@ -14,6 +14,7 @@ pub mod Longest
 pub mod Following
 pub mod Fields
 pub mod Decode
+pub mod Rows
 pub mod Inside
 pub mod ReadSize
 pub mod Again

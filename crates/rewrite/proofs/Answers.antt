@@ -1,25 +1,24 @@
 -- From what was measured and written to the answer of rewrite and to its whole output.
-use Prim.Native.Nat.{ℕ, _+_, _*_, _/_, _<_, _≤_}
+use Prim.Native.Nat.{ℕ, _*_, _/_, _<_, _≤_}
 use mathlib.Core.Path.{_≡_, refl, sym, ap, _∙_}
-use mathlib.Core.List.{List, map}
+use mathlib.Core.List.{List}
 use mathlib.Core.Bool.{true, false}
 use native.Mathlib.Omega.{arith}
-use lib.ListN.{length, take, drop, replicate, length-map, length-replicate}
-use lib.Seq.{sets, sets-eq, take-append-seam}
+use lib.ListN.{length, take, replicate, length-replicate}
+use lib.Seq.{sets}
 use lib.Dec.{ltb}
 use borrow.Author.Tests.{lt-ltb, le-ltb}
 use Rattle.arith.proofs.Clash.{clash}
 use Rattle.record.specs.declared.Refusal.{Refusal}
 use Rattle.record.specs.declared.Checked.the-variants as answer
-use Rattle.record.specs.Record.{Placed, Name, Record, plain, limits}
+use Rattle.record.specs.Record.{Placed, Record, plain, limits}
 use Rattle.record.specs.Reader.{Res, got, fault}
 use Rattle.record.specs.Read.{read}
 use Rattle.record.specs.Typing.{accept}
 use Rattle.record.specs.Write.{bytes}
 use Rattle.record.specs.Answer.{checked-as, checked}
-use Rattle.record.specs.Decode.{items, behind, name-from, name-end, names-count, names-end, record-from}
+use Rattle.record.specs.Decode.{behind, names-count, record-from}
 use Rattle.record.specs.Again.{record-in, Reads, types-in}
-use Rattle.record.proofs.Decode.{length-items}
 use Rattle.record.proofs.Typed.{accept-typed}
 use Rattle.record.proofs.Again.{record-again, few-names, record-ok}
 use Rattle.record.proofs.ReadSize.{read-size}
@@ -29,30 +28,10 @@ use Rattle.numbering.specs.Rewrite.{rewritten-bytes, rewrite-result, rewrite-ou
 use Rattle.numbering.proofs.Size.{rewriting-size}
 use Rattle.write_bytes.specs.Put.{put}
 use Rattle.write_bytes.proofs.Put.{put-first}
-use Rattle.check_types.specs.Passes.{types-from}
-use Rattle.write_names.specs.Named.{places-from, NamesAt}
-use Rattle.write_names.proofs.Laws.{places-hold}
+use Rattle.read_layout.specs.declared.Layout.{Layout}
+use Rattle.read_layout.specs.Layout.{types-from, places-from, NamesAt, layout-of, Bounded}
+use Rattle.read_layout.proofs.Tables.{types-hold, places-hold}
 use Rattle.rewrite.specs.Parts.{rewriting-in}
-
--- ---- the table of types, its first n entries
-pub types-first :
-    (s table : List ℕ) (n : ℕ) → n ≡ names-count s → n ≤ 256 → table ≡ sets (replicate 256 0) 0 (types-from s 8 n) →
-    take n table ≡ types-in s
-unfolding types-from record-from
-types-first s table n e h f =
-    let ts = types-from s 8 n in
-    let many : length ts ≡ n =
-    length-map (items (name-from s) (name-end s) 8 n) (λ (x : Name). x .type) ∙ length-items (name-from s) (name-end s) n 8 in
-    let room : 0 + length ts ≤ length (replicate {A = ℕ} 256 0) = omega (arith, length-replicate {A = ℕ} 256 0, many, h) in
-    (λ i. take (sym many i) ((f ∙ sets-eq ts (replicate 256 0) 0 room) i)) ∙
-    take-append-seam ts (drop (0 + length ts) (replicate 256 0)) ∙
-    ap (λ (k : ℕ). map (λ (x : Name). x .type) (items (name-from s) (name-end s) 8 k)) e
-
-pub placed-first :
-    (s table : List ℕ) (n : ℕ) → n ≡ names-count s → n ≤ 256 → table ≡ sets (replicate 256 0) 0 (places-from s 8 n) →
-    NamesAt s table (names-count s)
-placed-first s table n e h f x j =
-    places-hold s (replicate 256 0) table n (omega (arith, length-replicate {A = ℕ} 256 0, h)) f x (omega (arith, e, j))
 
 -- ---- an accepted record
 record Got (s : List ℕ) : Type 0 where
@@ -75,16 +54,35 @@ module _ (s : List ℕ) (h : checked s ≡ answer.Accepted) where
   pub accepted-few : names-count s ≤ 256
   accepted-few = few-names s _ _ reads
 
-  pub accepted-reads : {n end : ℕ} → n ≡ names-count s → end ≡ behind (name-end s) 8 n → end ≤ 8 + 257 * n → Reads s end
-  unfolding names-end
-  accepted-reads e f g =
-      record {
-        it = accepted-got s h .it;
-        behind = accepted-got s h .behind;
-        reads = reads;
-        names = f ∙ ap (behind (name-end s) 8) e;
-        near = omega (arith, e, g, accepted-few);
-      }
+  -- l: what its head says; table: of 256 entries, filled for the names
+  module _ (l : Layout) (e : l ≡ layout-of s) where
+    names-are : l .names ≡ names-count s
+    unfolding layout-of
+    names-are = ap (λ (x : Layout). x .names) e
+
+    pub few-in : l .names ≤ 256
+    few-in = omega (arith, names-are, accepted-few)
+
+    pub accepted-reads : Bounded l → Reads s (l .end)
+    unfolding layout-of
+    accepted-reads near =
+        record {
+          it = accepted-got s h .it;
+          behind = accepted-got s h .behind;
+          reads = reads;
+          names = ap (λ (x : Layout). x .end) e;
+          near = omega (arith, near .3, few-in);
+        }
+
+    module _ (table : List ℕ) where
+      room : names-count s ≤ length (replicate {A = ℕ} 256 0)
+      room = omega (arith, length-replicate {A = ℕ} 256 0, accepted-few)
+
+      pub types-first : table ≡ sets (replicate 256 0) 0 (types-from s 8 (names-count s)) → take (l .names) table ≡ types-in s
+      types-first f = ap (λ (n : ℕ). take n table) names-are ∙ types-hold s (replicate 256 0) table room f
+
+      pub placed-first : table ≡ sets (replicate 256 0) 0 (places-from s 8 (names-count s)) → NamesAt s table (names-count s)
+      placed-first f = places-hold s (replicate 256 0) table room f
 
   -- what rewrite's definition says of it
   same : accepted-got s h .it ≡ record-from s

@@ -11,7 +11,7 @@ use Rattle.record.specs.Again.{record-in, types-in, Reads}
 use Rattle.numbering.specs.Made.{made, rewriting}
 use Rattle.numbering.specs.Rewrite.{rewrite-result, rewrite-output}
 use Rattle.numbering.specs.declared.Rewritten.{Rewritten}
-use Rattle.write_names.specs.Named.{NamesAt}
+use Rattle.read_layout.specs.Layout.{NamesAt}
 use Rattle.lvn_blocks.specs.Block.{indexes}
 
 -- the rewriting of the record that stands in these bytes

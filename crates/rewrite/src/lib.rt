@@ -18,7 +18,7 @@ ghost use Rattle.record.specs.declared.Checked.the-variants.{Accepted};
 ghost use Rattle.record.specs.Again.{record-in, Reads};
 ghost use Rattle.numbering.specs.Made.{made};
 ghost use Rattle.numbering.specs.Rewrite.{rewrite, rewrite-leaves};
-ghost use Rattle.write_names.specs.Named.{NamesAt};
+ghost use Rattle.read_layout.specs.Layout.{NamesAt};
 ghost use Rattle.write_bytes.specs.Put.{put, Wrote};
 ghost use Rattle.rewrite.specs.Parts.{rewriting-in, front-parts, blocks-bytes, Lent, Typed, Noted, Answered, longest-front, longest-blocks, longest-rewriting};
 
@@ -38,7 +38,7 @@ pub fn put_blocks(
         Wrote (now (out .entry)) (now (out .exit)) at (r .at .q) (blocks-bytes (rewriting-in (now (s .entry)))) ×
         (Noted (now (s .entry)) (now (names .exit)) (r .count .total) × (r .at .q ≤ at + longest-blocks)) ⌝ }
 {
-    let w = check_record::id_bytes(read_fields::byte_or(s, 4));
+    let w = read_layout::id_bytes(read_fields::byte_or(s, 4));
     let args = read_fields::byte_or(s, 5) as u16;
     let count = read_fields::be16(s, end) as usize;
     let frame = Frame {
@@ -72,7 +72,7 @@ pub fn put_front(
     let n = read_fields::be16(s, 6) as u16;
     let count = read_fields::be16(s, end) as u16;
     write_bytes::put_u32(out, 0, rest);
-    write_names::put_head(out, version, args, n + k);
+    write_names::put_record_head(out, version, args, n + k);
     let p = write_names::copy_names(s, out, end);
     let q = write_names::put_made_names(out, p, s, places, names, k as usize);
     write_bytes::put_u16(out, q, count);
@@ -258,12 +258,10 @@ pub fn rewrite_accepted(s: &[u8], out: &mut [u8]) -> Rewritten
         (now (out .exit) ≡ rewrite-leaves (now (s .entry)) (now (out .entry))) ⌝ }
 {
     let mut types = [0u8; 256];
-    let n = read_fields::be16(s, 6);
-    let end = check_types::fill_types(s, &mut types, n, 8);
     let mut places = [0u32; 256];
-    write_names::fill_places(s, &mut places, n);
-    let count = n as usize;
-    rewrite_typed(s, &types[..count], &places, end, out)
+    let head = read_layout::layout_of(s, &mut types, &mut places);
+    let count = head.names;
+    rewrite_typed(s, &types[..count], &places, head.end, out)
 }
 
 // The rewriting of a record, written whole or not at all: its bytes and saves, check's refusal, or the bytes that the output is too

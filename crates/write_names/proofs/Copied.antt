@@ -15,8 +15,9 @@ use Rattle.record.specs.Good.{NamesOk}
 use Rattle.record.specs.Write.{be, join, name-bytes}
 use Rattle.record.specs.Decode.{items, behind, name-from, name-end, names-count, names-end, record-from}
 use Rattle.record.proofs.Tests.{and-right, need-passes}
-use Rattle.record.proofs.Again.{behind-on}
+use Rattle.record.proofs.Rows.{behind-on, name-grows}
 use Rattle.write_names.specs.Named.{Short}
+use Rattle.write_bytes.specs.Put.{longest-text}
 use Rattle.write_bytes.proofs.Parts.{part-less}
 
 -- n: the length of its text
@@ -43,7 +44,7 @@ name-stands s at n e h =
     (λ (k : ℕ). getD s at 0 ∷ length (take k (drop (at + 1 + 1) s)) ∷ (take k (drop (at + 1 + 1) s) ++ []))
     e
 
-pub names-stand :
+names-stand :
     (s : List ℕ) (n at : ℕ) →
     behind (name-end s) at n ≤ length s →
     take (behind (name-end s) at n - at) (drop at s) ≡ join (map name-bytes (items (name-from s) (name-end s) at n))
@@ -53,7 +54,7 @@ names-stand s (suc n) at h =
     let next : ℕ = name-end s at in
     let end : ℕ = behind (name-end s) next n in
     let l : ℕ = getD s (at + 1) 0 in
-    let o : next ≤ end = behind-on s n next in
+    let o : next ≤ end = behind-on (name-end s) (name-grows s) next n in
     let e : end - at ≡ 2 + l + (end - next) = omega arith in
     let f : at + (2 + l) ≡ next = omega arith in
     ap (λ (k : ℕ). take k (drop at s)) e ∙ take-add (2 + l) (end - next) (drop at s) ∙
@@ -73,7 +74,7 @@ names-copied s h = names-stand s _ 8 h
 pub text-whole : (s : List ℕ) (n at : ℕ) → behind (name-end s) at (suc n) ≤ length s → length (name-from s at .text) ≡ getD s (at + 1) 0
 unfolding behind name-end
 text-whole s n at h =
-    let o : name-end s at ≤ behind (name-end s) (name-end s at) n = behind-on s n (name-end s at) in
+    let o : name-end s at ≤ behind (name-end s) (name-end s at) n = behind-on (name-end s) (name-grows s) (name-end s at) n in
     let d : length (drop (at + 1 + 1) s) ≡ length s - (at + 1 + 1) = length-drop (at + 1 + 1) s in
     length-take-le (getD s (at + 1) 0) (drop (at + 1 + 1) s) (omega arith)
 
@@ -82,7 +83,7 @@ lengths-short :
     behind (name-end s) at n ≤ length s →
     NamesOk limits seen (items (name-from s) (name-end s) at n) →
     x < n →
-    getD s (behind (name-end s) at x + 1) 0 ≤ 200
+    getD s (behind (name-end s) at x + 1) 0 ≤ longest-text
 unfolding behind items text-length-test
 lengths-short s seen zero at x h ok j = absurd (omega arith)
 lengths-short s seen (suc n) at zero h ok j =

@@ -1,18 +1,17 @@
 -- The place of a name and what stands there, the head, and made names one after the other.
-use Prim.Native.Nat.{ℕ, suc, _+_, _-_, _<_, _≤_}
+use Prim.Native.Nat.{ℕ, _+_, _-_, _<_, _≤_}
 use mathlib.Core.Path.{_≡_, refl, sym, ap, subst, _∙_}
-use mathlib.Core.List.{List, [], _∷_, _++_, map}
+use mathlib.Core.List.{List, [], _++_, map}
 use native.Mathlib.Omega.{arith}
 use native.Mathlib.Numerals.{add-one}
-use lib.ListN.{length, getD, set, take, drop, List·getD-append, List·getD-map}
-use lib.Seq.{sets, sets-eq}
+use lib.ListN.{length, getD, take, drop, List·getD-map}
 use Rattle.record.specs.Record.{nm, Name, plain, type-in}
 use Rattle.record.specs.Write.{be, join, name-bytes}
 use Rattle.record.specs.Decode.{items, behind, name-from, name-end, names-count, record-from}
 use Rattle.numbering.specs.Made.{made-text, made-name, made-names}
-use Rattle.write_names.specs.Named.{text-length, places-from, NamesAt}
-use Rattle.write_bytes.specs.Put.{put, Wrote}
-use Rattle.record.proofs.Decode.{item-at, length-items}
+use Rattle.write_names.specs.Named.{text-length}
+use Rattle.write_bytes.specs.Put.{put, Wrote, longest-text}
+use Rattle.record.proofs.Decode.{item-at}
 use Rattle.write_bytes.proofs.Wrote.{wrote-append, wrote-number}
 use Rattle.write_bytes.proofs.Parts.{part-less, part-none}
 
@@ -25,35 +24,6 @@ pub head-wrote :
     Wrote l r 4 8 (be 1 v ++ (be 1 a ++ be 2 c))
 head-wrote v a c e f g =
     wrote-append (be 1 v) (be 1 a ++ be 2 c) (wrote-number 1 v e) (wrote-append (be 1 a) (be 2 c) (wrote-number 1 a f) (wrote-number 2 c g))
-
--- ---- the table of places
-module _ (s : List ℕ) (p left : ℕ) (h : 0 < left) where
-  -- m: the table with one entry more
-  pub places-went :
-      (l m : List ℕ) (i v q : ℕ) → m ≡ set l i v → v ≡ p → q ≡ name-end s p →
-      sets m (i + 1) (places-from s q (left - 1)) ≡ sets l i (places-from s p left)
-  unfolding places-from items
-  places-went l m i v q em ev eq =
-      let j : i + 1 ≡ suc i = omega arith in
-      let k : left ≡ suc (left - 1) = omega arith in
-      let first : places-from s p left ≡ p ∷ places-from s (name-end s p) (left - 1) = ap (places-from s p) k in
-      rw (em, ev, eq, j, first)
-
-pub places-done : (s l : List ℕ) (i p left : ℕ) → left ≡ 0 → l ≡ sets l i (places-from s p left)
-unfolding places-from items
-places-done s l i p left z = sym (ap (λ (k : ℕ). sets l i (places-from s p k)) z)
-
--- filled from its start, a table that has room holds the places
-pub places-hold :
-    (s l table : List ℕ) (n : ℕ) → n ≤ length l → table ≡ sets l 0 (places-from s 8 n) → NamesAt s table n
-unfolding places-from
-places-hold s l table n h e x j =
-    let ps = places-from s 8 n in
-    let many : length ps ≡ n = length-items (λ p. p) (name-end s) n 8 in
-    let room : 0 + length ps ≤ length l = omega (arith, many, h) in
-    ap (λ (t : List ℕ). getD t x 0) (e ∙ sets-eq ps l 0 room) ∙
-    List·getD-append ps (drop (0 + length ps) l) 0 x (omega (arith, many, j)) ∙
-    item-at (λ p. p) (name-end s) 0 x n 8 j
 
 -- ---- made names by their places
 -- the name made with K = k of the one at a place
@@ -88,8 +58,8 @@ pub text-short :
     (s : List ℕ) (x p n : ℕ) →
     p ≡ behind (name-end s) 8 x →
     n ≡ getD s (p + 1) 0 →
-    text-length s x ≤ 200 →
-    n ≤ 200
+    text-length s x ≤ longest-text →
+    n ≤ longest-text
 text-short s x p n e f h =
     let g : getD s (p + 1) 0 ≡ text-length s x = ap (λ (k : ℕ). getD s (k + 1) 0) e in omega arith
 

@@ -1,24 +1,24 @@
+-- `check_names::mark_at` meets its contract: a text that is cut off is not asked for.
 use Prim.Native.Nat.{_+_}
 use mathlib.Core.Path.{ap, _∙_}
 use native.Mathlib.Omega.{arith}
 use lib.ListN.{take, drop}
 use borrow.Author.Needs.{needs}
-use Rattle.check_texts.specs.Names.{text-of, next-name}
+use Rattle.record.specs.Decode.{name-end}
 use Rattle.check_names.specs.Marks.{mark}
 use Rattle.check_names.proofs.mark_at.Statement.{statement}
 use Rattle.check_names.proofs.mark_at.Tie as tie
 
 returns : tie.Need-returns
-unfolding next-name
+unfolding name-end
 returns c = (omega arith, λ f. absurd (omega (arith, f, c .before .left .ensures, c .if1 .taken)))
 
 returns-2 : tie.Need-returns-2
-unfolding next-name
+unfolding name-end
 returns-2 c =
     (omega arith, λ f. absurd (omega (arith, f, c .before .left2 .ensures, c .if2 .taken, c .before .before .byte-or .ensures .0)))
 
 returns-3 : tie.Need-returns-3
-unfolding text-of
 returns-3 c =
     let b = c .before .before .before in
     let a = b .before .before .before .before .args in

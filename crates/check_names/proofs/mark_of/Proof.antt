@@ -1,3 +1,4 @@
+-- `check_names::mark_of` meets its contract: the mark of the bytes left, from the mark so far, is the mark of all.
 use Prim.Native.Nat.{_+_, _<_, _≤_}
 use mathlib.Core.Path.{_≡_, refl, _∙_}
 use native.Mathlib.Omega.{arith}

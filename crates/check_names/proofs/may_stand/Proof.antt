@@ -1,3 +1,4 @@
+-- `check_names::may_stand` meets its contract: its test is the definition's.
 use mathlib.Core.Path.{ap}
 use mathlib.Core.Bool.{not}
 use borrow.Author.Needs.{needs}

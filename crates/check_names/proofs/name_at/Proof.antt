@@ -1,3 +1,4 @@
+-- `check_names::name_at` meets its contract: type, length and text, as the definition reads them.
 use mathlib.Core.Path.{sym, ap, _∙_}
 use native.Mathlib.Omega.{arith}
 use borrow.Author.Needs.{needs}
@@ -12,7 +13,7 @@ text-at-requires c κs =
     let d = b .before .before .before .before in
     let a = d .before .before .args in
     let s = a .s .now in
-    let q = type-ends s (a .p) _ _ (sym (d .type-at .ensures) ∙ ap res (b .before .before .q .given .1)) in
+    let q = type-ends s (a .p) _ _ (sym (d .type-field .ensures) ∙ ap res (b .before .before .q .given .1)) in
     let t = length-tells (a .lim .text) s _ _ _ (sym (b .text-length-at .ensures) ∙ ap res (c .before .n .given .1)) in
     (t .0, omega (arith, q, t .1, d .before .before .pre))
 
@@ -21,7 +22,7 @@ returns c =
     let b = c .before .before .before .before in
     let d = b .before .before .before .before in
     let a = d .before .before .args in
-    text-last (a .lim) _ (a .s .now) (a .p) _ _ (sym (d .type-at .ensures) ∙ ap res (b .before .before .q .given .1)) _ _ _
+    text-last (a .lim) _ (a .s .now) (a .p) _ _ (sym (d .type-field .ensures) ∙ ap res (b .before .before .q .given .1)) _ _ _
     (sym (b .text-length-at .ensures) ∙ ap res (c .before .before .n .given .1)) (c .text-at .ensures)
 
 returns-2 : tie.Need-returns-2
@@ -29,14 +30,14 @@ returns-2 c =
     let b = c .before .before .before in
     let d = b .before .before .before .before in
     let a = d .before .before .args in
-    length-refused (a .lim) _ (a .s .now) (a .p) _ _ (sym (d .type-at .ensures) ∙ ap res (b .before .before .q .given .1)) _ _
+    length-refused (a .lim) _ (a .s .now) (a .p) _ _ (sym (d .type-field .ensures) ∙ ap res (b .before .before .q .given .1)) _ _
     (sym (b .text-length-at .ensures) ∙ ap res (c .before .r .given .1))
 
 returns-3 : tie.Need-returns-3
 returns-3 c =
     let b = c .before .before .before in
     let a = b .before .before .args in
-    type-refused (a .lim) _ (a .s .now) (a .p) _ _ (sym (b .type-at .ensures) ∙ ap res (c .before .r2 .given .1))
+    type-refused (a .lim) _ (a .s .now) (a .p) _ _ (sym (b .type-field .ensures) ∙ ap res (c .before .r2 .given .1))
 
 pub name-at-spec : {M : Type 1} → statement M
 name-at-spec =

@@ -1,3 +1,4 @@
+-- `check_names::names_at` meets its contract: what the names left answer is what all answer, and each text seen has its mark.
 use Prim.Native.Nat.{_-_, _≤_}
 use mathlib.Core.Path.{_≡_, refl, _∙_}
 use mathlib.Core.List.{[]}
@@ -6,8 +7,10 @@ use lib.ListN.{length, length-set}
 use borrow.Author.Needs.{needs}
 use Rattle.record.specs.Read.{names}
 use Rattle.record.specs.Answer.{verdict}
-use Rattle.check_texts.specs.Names.{texts-from, behind}
-use Rattle.check_names.proofs.Laws.{more-seen, names-stopped, names-went, names-done, names-all, behind-none}
+use Rattle.record.specs.Decode.{behind, name-end}
+use Rattle.read_layout.specs.Layout.{texts-from}
+use Rattle.record.proofs.Rows.{behind-done}
+use Rattle.check_names.proofs.Laws.{more-seen, names-stopped, names-went, names-done, names-all}
 use Rattle.check_names.proofs.Marks.{Marked, none-marked, marked-more, searched-behind, name-searched}
 use Rattle.check_names.proofs.names_at.Statement.{statement}
 use Rattle.check_names.proofs.names_at.Tie as tie
@@ -15,7 +18,7 @@ use Rattle.check_names.proofs.names_at.Tie as tie
 abbrev Inv-loop : tie.InvT-loop
 Inv-loop lim s at count seen₀ p₀ left₀ seen p left =
     (left ≤ count)
-    × (p ≡ behind s at (count - left))
+    × (p ≡ behind (name-end s) at (count - left))
     × (verdict (names lim (texts-from s at (count - left)) left s p) ≡ verdict (names lim [] count s at))
     × (length seen ≡ 2048)
     × Marked seen (texts-from s at (count - left))
@@ -28,7 +31,7 @@ loop-holds c =
     let a = c .before .args in
     let s = a .s .now in (
       omega arith,
-      behind-none s (a .at) (a .count),
+      behind-done (name-end s) (a .at) _ (omega arith),
       names-all (a .lim) s (a .at) (a .count),
       refl,
       none-marked _ s (a .at) (a .count),

@@ -1,3 +1,4 @@
+-- `check_names::text_at` meets its contract: the text is cut off, or its test decides.
 use Prim.Native.Nat.{_<_, _≤_}
 use mathlib.Core.Path.{sym, _∙_, subst}
 use borrow.Author.Needs.{needs}

@@ -1,3 +1,4 @@
+-- `check_names::text_length_test` meets its contract: its tests are the definition's.
 use mathlib.Core.Path.{_∙_}
 use borrow.Author.Needs.{needs}
 use Rattle.check_names.proofs.Laws.{length-zero, length-some}

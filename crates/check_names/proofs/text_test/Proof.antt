@@ -1,3 +1,4 @@
+-- `check_names::text_test` meets its contract: its three tests, in the definition's order.
 use mathlib.Core.Path.{sym, ap, _∙_}
 use mathlib.Core.Bool.{not}
 use borrow.Author.Tests.{not-true, not-false}

@@ -1,3 +1,4 @@
+-- `check_names::to_search` meets its contract: its test is the definition's.
 use borrow.Author.Tests.{eq-eqb, ne-eqb}
 use Rattle.check_names.proofs.to_search.Statement.{statement}
 use Rattle.check_names.proofs.to_search.Tie as tie

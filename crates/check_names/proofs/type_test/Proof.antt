@@ -1,3 +1,4 @@
+-- `check_names::type_test` meets its contract: its test is the definition's.
 use borrow.Author.Needs.{needs}
 use Rattle.record.specs.Tests.{type-test}
 use Rattle.check_names.proofs.type_test.Statement.{statement}

@@ -1,4 +1,4 @@
--- `check_record::contents_at` meets its contract.
+-- `check_record::contents_at` meets its contract: field after field, as the definition reads them.
 use mathlib.Core.Path.{sym, ap, _∙_}
 use borrow.Author.Needs.{needs}
 use Rattle.record.specs.Read.{contents}
@@ -17,7 +17,7 @@ returns c =
     read-is _ _ _ _ _ _ _ (sym (v .before .before .version-at .ensures) ∙ ap res (v .v .given .1))
     (read-is _ _ _ _ _ _ _ (sym (a .before .before .one-limited .ensures) ∙ ap res (a .a .given .1))
     (read-is _ _ _ _ _ _ _ (sym (n .before .before .name-count-at .ensures) ∙ ap res (n .n .given .1))
-    (c .names-and-blocks-at .ensures ∙ contents-rest _ _ _ _ _ (c .before .id-bytes .ensures) _ _)))
+    (c .names-and-blocks-at .ensures ∙ contents-rest _ _ _ _ _ (c .before .id-bytes .ensures .0) _ _)))
 
 returns-2 : tie.Need-returns-2
 unfolding contents

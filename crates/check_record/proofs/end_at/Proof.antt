@@ -1,4 +1,4 @@
--- `check_record::end_at` meets its contract.
+-- `check_record::end_at` meets its contract: its test is the definition's.
 use Rattle.check_record.proofs.Laws.{bytes-left, no-byte-left}
 use Rattle.check_record.proofs.end_at.Statement.{statement}
 use Rattle.check_record.proofs.end_at.Tie as tie

@@ -1,4 +1,4 @@
--- `check_record::length_at` meets its contract.
+-- `check_record::length_at` meets its contract: four bytes and their test.
 use mathlib.Core.Path.{sym, ap, _∙_}
 use borrow.Author.Needs.{needs}
 use Rattle.record.specs.Tests.{length-test}

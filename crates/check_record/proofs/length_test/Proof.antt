@@ -1,4 +1,4 @@
--- `check_record::length_test` meets its contract.
+-- `check_record::length_test` meets its contract: its test is the definition's.
 use borrow.Author.Needs.{needs}
 use Rattle.record.specs.Tests.{length-test}
 use Rattle.check_record.proofs.length_test.Statement.{statement}

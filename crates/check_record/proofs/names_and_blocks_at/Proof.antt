@@ -1,4 +1,4 @@
--- `check_record::names_and_blocks_at` meets its contract.
+-- `check_record::names_and_blocks_at` meets its contract: part after part, as the definition reads them.
 use mathlib.Core.Path.{sym, ap, _∙_}
 use borrow.Author.Needs.{needs}
 use Rattle.record.proofs.Following.{read-no, read-is, stopped, passed}

@@ -1,4 +1,4 @@
--- `check_record::names_test` meets its contract.
+-- `check_record::names_test` meets its contract: its tests are the definition's.
 use mathlib.Core.Path.{ap, _∙_}
 use mathlib.Core.Logic.{⊎-elim}
 use borrow.Author.Needs.{needs}

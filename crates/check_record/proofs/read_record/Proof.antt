@@ -1,4 +1,4 @@
--- `check_record::read_record` meets its contract.
+-- `check_record::read_record` meets its contract: the length, the contents and the end, as the definition reads them.
 use mathlib.Core.Path.{sym, ap, _∙_}
 use borrow.Author.Needs.{needs}
 use Rattle.record.specs.Read.{read, end}

@@ -1,4 +1,4 @@
--- `check_record::version_test` meets its contract.
+-- `check_record::version_test` meets its contract: its test is the definition's.
 use borrow.Author.Needs.{needs}
 use Rattle.record.specs.Tests.{version-test}
 use Rattle.check_record.proofs.version_test.Statement.{statement}

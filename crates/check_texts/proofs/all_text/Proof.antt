@@ -1,3 +1,4 @@
+-- `check_texts::all_text` meets its contract: what the bytes left answer is what all answer.
 use Prim.Native.Nat.{_+_, _≤_}
 use mathlib.Core.Path.{_≡_, refl, sym, _∙_}
 use native.Mathlib.Omega.{arith}

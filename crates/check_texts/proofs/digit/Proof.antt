@@ -1,3 +1,4 @@
+-- `check_texts::digit` meets its contract: by the ranges of the byte.
 use Rattle.check_texts.proofs.Bytes.{digit-below, digit-from}
 use Rattle.check_texts.proofs.digit.Statement.{statement}
 use Rattle.check_texts.proofs.digit.Tie as tie

@@ -1,3 +1,4 @@
+-- `check_texts::ends_lvn` meets its contract: byte by byte.
 use borrow.Author.Needs.{needs}
 use Rattle.check_texts.proofs.Laws.{lvn-first, lvn-second, lvn-third, lvn-last}
 use Rattle.check_texts.proofs.ends_lvn.Statement.{statement}

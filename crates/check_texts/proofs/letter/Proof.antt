@@ -1,3 +1,4 @@
+-- `check_texts::letter` meets its contract: by the ranges of the byte.
 use native.Mathlib.Omega.{arith}
 use Rattle.check_texts.proofs.Bytes.{letter-below, letter-upper, letter-between, letter-lower}
 use Rattle.check_texts.proofs.letter.Statement.{statement}

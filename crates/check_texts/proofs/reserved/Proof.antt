@@ -1,3 +1,4 @@
+-- `check_texts::reserved` meets its contract: its tests, in the definition's order.
 use mathlib.Core.Path.{_∙_}
 use native.Mathlib.Omega.{arith}
 use borrow.Author.Needs.{needs}

@@ -1,13 +1,14 @@
+-- `check_texts::same_name` meets its contract: texts of different lengths differ.
 use mathlib.Core.Path.{_∙_}
 use native.Mathlib.Omega.{arith}
 use borrow.Author.Needs.{needs}
-use Rattle.check_texts.specs.Names.{next-name}
+use Rattle.record.specs.Decode.{name-end}
 use Rattle.check_texts.proofs.Laws.{name-other, name-same}
 use Rattle.check_texts.proofs.same_name.Statement.{statement}
 use Rattle.check_texts.proofs.same_name.Tie as tie
 
 add-byte-or : tie.Need-add-byte-or
-unfolding next-name
+unfolding name-end
 add-byte-or c = omega arith
 
 returns : tie.Need-returns
@@ -17,15 +18,15 @@ returns c =
     name-other (a .s .now) (a .p) (a .t) (a .n) _ (c .before .byte-or .ensures .0) (b .pre .0) (b .pre .1) (λ e. omega arith)
 
 add-same-part : tie.Need-add-same-part
-unfolding next-name
+unfolding name-end
 add-same-part c = omega arith
 
 add-same-part-2 : tie.Need-add-same-part-2
-unfolding next-name
+unfolding name-end
 add-same-part-2 c = omega arith
 
 same-part-requires : tie.Need-same-part-requires
-unfolding next-name
+unfolding name-end
 same-part-requires c κs = (c .before .before .before .pre .0, omega arith)
 
 returns-2 : tie.Need-returns-2

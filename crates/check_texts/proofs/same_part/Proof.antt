@@ -1,3 +1,4 @@
+-- `check_texts::same_part` meets its contract: what the bytes left answer is what all answer.
 use Prim.Native.Nat.{_+_, _≤_}
 use mathlib.Core.Path.{_≡_, refl, _∙_}
 use native.Mathlib.Omega.{arith}

@@ -1,3 +1,4 @@
+-- `check_texts::text_byte` meets its contract: a letter, or else a digit.
 use mathlib.Core.Path.{sym, _∙_}
 use borrow.Author.Needs.{needs}
 use Rattle.check_texts.proofs.Bytes.{or-left, or-right}

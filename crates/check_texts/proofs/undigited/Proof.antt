@@ -1,3 +1,4 @@
+-- `check_texts::undigited` meets its contract: what the bytes before answer is what all answer.
 use Prim.Native.Nat.{_≤_}
 use mathlib.Core.Path.{_≡_, refl, sym, _∙_}
 use native.Mathlib.Omega.{arith}

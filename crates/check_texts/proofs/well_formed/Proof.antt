@@ -1,3 +1,4 @@
+-- `check_texts::well_formed` meets its contract: a letter first, then the rest.
 use mathlib.Core.Path.{sym, _∙_}
 use borrow.Author.Needs.{needs}
 use Rattle.check_texts.proofs.Laws.{first-no, first-yes}

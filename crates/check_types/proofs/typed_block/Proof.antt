@@ -1,3 +1,4 @@
+-- `check_types::typed_block` meets its contract: it answers as its body.
 use borrow.Author.Needs.{needs}
 use native.Mathlib.Omega.{arith}
 use Rattle.check_types.proofs.Laws.{block-is}

@@ -1,7 +1,9 @@
+-- `check_types::typed_blocks` meets its contract: what the blocks left answer is what all answer.
 use borrow.Author.Needs.{needs}
 use Prim.Native.Nat.{_+_, _*_, _≤_}
 use mathlib.Core.Path.{_≡_, refl, sym, _∙_}
 use native.Mathlib.Omega.{arith}
+use Rattle.read_layout.specs.Bounds.{block-reach}
 use Rattle.check_types.specs.Passes.{blocks-verdict}
 use Rattle.check_types.proofs.Laws.{blocks-stopped, blocks-went, blocks-done}
 use Rattle.check_types.proofs.typed_blocks.Statement.{statement}
@@ -9,7 +11,7 @@ use Rattle.check_types.proofs.typed_blocks.Tie as tie
 
 abbrev Inv-loop : tie.InvT-loop
 Inv-loop s types w n at p₀ left₀ p left =
-    (p + 73000000 * left ≤ at + 73000000 * n) × (blocks-verdict w types s p left ≡ blocks-verdict w types s at n)
+    (p + block-reach * left ≤ at + block-reach * n) × (blocks-verdict w types s p left ≡ blocks-verdict w types s at n)
 
 abbrev μ-loop : tie.MeasureT-loop
 μ-loop s types w n at p₀ left₀ p left = left

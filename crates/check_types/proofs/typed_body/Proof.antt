@@ -1,15 +1,17 @@
+-- `check_types::typed_body` meets its contract: what the instructions left answer is what all answer.
 use borrow.Author.Needs.{needs}
 use Prim.Native.Nat.{_+_, _*_, _≤_}
 use mathlib.Core.Path.{_≡_, refl, _∙_}
 use native.Mathlib.Omega.{arith}
 use borrow.Author.Tests.{not-true, not-false}
+use Rattle.read_layout.specs.Bounds.{instr-reach}
 use Rattle.check_types.specs.Passes.{body-verdict}
 use Rattle.check_types.proofs.Laws.{body-broke, body-went, body-done, no-place, at-place}
 use Rattle.check_types.proofs.typed_body.Statement.{statement}
 use Rattle.check_types.proofs.typed_body.Tie as tie
 
 abbrev Inv-loop : tie.InvT-loop
-Inv-loop s types w n at p₀ left₀ p left = (p + 1100 * left ≤ at + 1100 * n) × (body-verdict w types s p left ≡ body-verdict w types s at n)
+Inv-loop s types w n at p₀ left₀ p left = (p + instr-reach * left ≤ at + instr-reach * n) × (body-verdict w types s p left ≡ body-verdict w types s at n)
 
 abbrev μ-loop : tie.MeasureT-loop
 μ-loop s types w n at p₀ left₀ p left = left

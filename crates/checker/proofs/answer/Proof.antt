@@ -1,3 +1,4 @@
+-- `checker::answer` meets its contract: the two answers one by one.
 use borrow.Author.Needs.{needs}
 use mathlib.Core.Path.{sym, ap}
 use Rattle.checker.specs.Pass.{as-checked}

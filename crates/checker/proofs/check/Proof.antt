@@ -1,3 +1,4 @@
+-- `checker::check` meets its contract: a fault of reading is the answer, otherwise the second pass answers.
 use borrow.Author.Needs.{needs}
 use mathlib.Core.Path.{sym, _∙_}
 use Rattle.checker.proofs.Laws.{checked-typed, checked-refused}

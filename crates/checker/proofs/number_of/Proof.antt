@@ -1,3 +1,4 @@
+-- `checker::number_of` meets its contract: each refusal's number, one by one.
 use borrow.Author.Needs.{needs}
 use Rattle.record.specs.Answer.{number}
 use Rattle.checker.proofs.number_of.Statement.{statement}

@@ -1,3 +1,4 @@
+-- `name_text::chosen` meets its contract: the four cases of the choice.
 use Rattle.name_text.proofs.Laws.{chosen-few, chosen-past, chosen-first, chosen-second}
 use borrow.Author.Needs.{needs}
 use Rattle.name_text.proofs.chosen.Statement.{statement}

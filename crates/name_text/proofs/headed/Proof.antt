@@ -1,3 +1,4 @@
+-- `name_text::headed` meets its contract: its tests, in the definition's order.
 use Rattle.name_text.proofs.Laws.{head-short, head-length, head-version}
 use borrow.Author.Needs.{needs}
 use Rattle.name_text.proofs.headed.Statement.{statement}

@@ -1,3 +1,4 @@
+-- `name_text::name_answer` meets its contract: the answer of the part found.
 use mathlib.Core.Path.{ap}
 use Rattle.numbering.specs.NameText.{NameText}
 use borrow.Author.Needs.{needs}

@@ -1,3 +1,4 @@
+-- `name_text::name_text` meets its contract: the part found lies within its record.
 use mathlib.Core.Path.{_≡_, sym, ap}
 use mathlib.Core.Bool.{cond}
 use Prim.Native.Nat.{_+_, _-_, _≤_}

@@ -1,3 +1,4 @@
+-- `name_text::part_of` meets its contract: the check, then the head, then the names.
 use mathlib.Core.Path.{sym, _∙_}
 use Rattle.name_text.proofs.Laws.{input-refused, refused-lies, when-headed, when-not}
 use borrow.Author.Needs.{needs}

@@ -22,7 +22,7 @@ blocks-lvn-requires c κs =
     let version = width .before in
     let pre = version .before .before .before .before .before .before .before .pre in
     let p = pre .0 in
-    let w = width .id-bytes .ensures ∙ ap id-bytes (version .byte-or .ensures .0) in (
+    let w = width .id-bytes .ensures .0 ∙ ap id-bytes (version .byte-or .ensures .0) in (
       refl,
       blocks-ask (p .reads) _ _ _ _ (p .types) w (args .byte-or2 .ensures .0) (count .be16 .ensures .0) (pre .1) (p .heads) (p .nums),
     )
@@ -35,7 +35,7 @@ returns c =
     let width = args .before in
     let version = width .before in
     let p = version .before .before .before .before .before .before .before .pre .0 in
-    let w = width .id-bytes .ensures ∙ ap id-bytes (version .byte-or .ensures .0) in
+    let w = width .id-bytes .ensures .0 ∙ ap id-bytes (version .byte-or .ensures .0) in
     let done = call .blocks-lvn .ensures in (
       blocks-put (p .reads) _ _ _ _ (p .types) w (args .byte-or2 .ensures .0) (count .be16 .ensures .0) done,
       (

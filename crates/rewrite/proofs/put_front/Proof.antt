@@ -5,8 +5,8 @@ use Rattle.rewrite.proofs.Known.{names-before, few-made, made-named, ma
 use Rattle.rewrite.proofs.put_front.Statement.{statement}
 use Rattle.rewrite.proofs.put_front.Tie as tie
 
-add-put-head : tie.Need-add-put-head
-add-put-head c =
+add-put-record-head : tie.Need-add-put-record-head
+add-put-record-head c =
     let n = c .before .before .before .before .before .before in
     let p = n .before .before .before .before .before .before .before .pre in
     omega (arith, n .be16 .ensures .0, few-original (p .0), few-made (p .0) (p .1 .0))
@@ -54,7 +54,7 @@ returns c =
     let args = names .before in
     let version = args .before in
     let p = version .before .before .before .before .before .pre in (
-      front-put (p .0) (p .1 .0) _ _ _ _ _ (first .put-u32 .ensures) (head .put-head .ensures) (copied .copy-names .ensures .0)
+      front-put (p .0) (p .1 .0) _ _ _ _ _ (first .put-u32 .ensures) (head .put-record-head .ensures) (copied .copy-names .ensures .0)
           (made .put-made-names .ensures .0) (last .put-u16 .ensures) (version .byte-or .ensures .0) (args .byte-or2 .ensures .0)
           (omega (arith, names .be16 .ensures .0)) (blocks .be162 .ensures .0),
       (
@@ -68,5 +68,5 @@ put-front-spec =
     tie.close
     (tie.spec (λ c κs. search needs) (λ c. search needs) (λ c κs. search needs) (λ c. search needs)
     (λ c κs. search needs) (λ c. search needs) (λ c κs. search needs) (λ c. search needs) (λ c κs. search needs)
-    add-put-head (λ c κs. search needs) copy-names-requires put-made-names-requires put-u16-requires add-result
+    add-put-record-head (λ c κs. search needs) copy-names-requires put-made-names-requires put-u16-requires add-result
     (λ c. search needs) returns)

@@ -1,3 +1,4 @@
+-- `write_names::made_name_size` meets its contract: the size of a name, by the length of its text and the digits.
 use borrow.Author.Needs.{needs}
 use mathlib.Core.Path.{_∙_}
 use native.Mathlib.Omega.{arith}

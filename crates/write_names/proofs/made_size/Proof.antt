@@ -1,8 +1,10 @@
+-- `write_names::made_size` meets its contract: the sizes so far and of those left are the sizes of all.
 use borrow.Author.Needs.{needs}
 use Prim.Native.Nat.{_+_, _*_, _<_, _≤_}
 use mathlib.Core.Path.{_≡_, _∙_}
 use native.Mathlib.Omega.{arith}
 use lib.ListN.{length}
+use Rattle.write_names.specs.Named.{made-reach}
 use Rattle.write_names.proofs.Laws.{names-left}
 use Rattle.write_names.proofs.Sizes.{size-less, size-none}
 use Rattle.write_names.proofs.made_size.Statement.{statement}
@@ -11,7 +13,7 @@ use Rattle.write_names.proofs.made_size.Tie as tie
 abbrev Inv-loop : tie.InvT-loop
 Inv-loop s places made count size₀ i₀ left₀ size i left =
     (i + left ≡ count) ×
-    ((size + 300 * left ≤ 300 * count) × (size + length (names-left s made i left) ≡ length (names-left s made 0 count)))
+    ((size + made-reach * left ≤ made-reach * count) × (size + length (names-left s made i left) ≡ length (names-left s made 0 count)))
 
 abbrev μ-loop : tie.MeasureT-loop
 μ-loop s places made count size₀ i₀ left₀ size i left = left

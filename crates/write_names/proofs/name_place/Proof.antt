@@ -1,3 +1,4 @@
+-- `write_names::name_place` meets its contract: past its end a table has 0.
 use borrow.Author.Needs.{needs}
 use mathlib.Core.Path.{sym}
 use native.Mathlib.Omega.{arith}

@@ -1,3 +1,4 @@
+-- `write_names::put_made_name` meets its contract: the type and the text of the name stand at its place.
 use borrow.Author.Needs.{needs}
 use mathlib.Core.Path.{_∙_}
 use Rattle.write_names.proofs.Laws.{made-wrote, text-short}

@@ -1,9 +1,11 @@
+-- `write_names::put_made_names` meets its contract: written on with those left, the output is as written with all.
 use borrow.Author.Needs.{needs}
 use Prim.Native.Nat.{_+_, _*_, _<_, _≤_}
 use mathlib.Core.Path.{_≡_, refl}
 use native.Mathlib.Omega.{arith}
 use lib.ListN.{length}
 use Rattle.write_bytes.proofs.Wrote.{Rest, rest-all, rest-less, rest-none}
+use Rattle.write_names.specs.Named.{longest-made}
 use Rattle.write_names.proofs.Laws.{names-left, names-less, names-none}
 use Rattle.write_names.proofs.put_made_names.Statement.{statement}
 use Rattle.write_names.proofs.put_made_names.Tie as tie
@@ -11,7 +13,7 @@ use Rattle.write_names.proofs.put_made_names.Tie as tie
 abbrev Inv-loop : tie.InvT-loop
 Inv-loop out₀ at s places made count p₀ i₀ left₀ out p i left =
     (i + left ≡ count) ×
-    ((p + 217 * left ≤ at + 217 * count) ×
+    ((p + longest-made * left ≤ at + longest-made * count) ×
     ((length out ≡ length out₀) ×
     Rest out p (names-left s made i left) out₀ at (names-left s made 0 count)))
 
