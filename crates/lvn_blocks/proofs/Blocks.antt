@@ -15,7 +15,7 @@ use Rattle.numbering.specs.Number.{Numbered, blocks-lvn, count-saves, saved-in,
 use Rattle.numbering.proofs.Made.{saved-in-length}
 use Rattle.write_bytes.specs.Put.{Wrote}
 use Rattle.write_bytes.proofs.Wrote.{Rest, rest-all, rest-less, rest-none}
-use Rattle.lvn_blocks.specs.declared.Frame.{Frame}
+use Rattle.read_layout.specs.declared.Layout.{Layout}
 use Rattle.lvn_blocks.specs.declared.Spot.{Spot}
 use Rattle.lvn_blocks.specs.declared.SaveCount.{SaveCount}
 use Rattle.lvn_blocks.specs.Block.{indexes}
@@ -35,23 +35,23 @@ abbrev all-saved : ℕ → List (Block Instr) → List ℕ
 all-saved N bs = indexes (made-from N bs)
 
 -- what the head of a record says whose function is f, with so many blocks
-abbrev frame-of : ℕ → Function → ℕ → Frame
-frame-of w f n = record { width = w; names = names-of f; args = f .args; blocks = n }
+abbrev layout-for : ℕ → Function → ℕ → ℕ → Layout
+layout-for w f e n = record { width = w; args = f .args; names = names-of f; end = e; blocks = n }
 
 module _
-    (F : Frame) (f : Function) {s : List ℕ} {ty : NameIx → ℕ} {at : Spot} {c : SaveCount} {r : Spot} {c′ : SaveCount}
+    (F : Layout) (f : Function) {s : List ℕ} {ty : NameIx → ℕ} {at : Spot} {c : SaveCount} {r : Spot} {c′ : SaveCount}
     {made made′ out out′ : List ℕ}
   where
-    pub framed :
+    pub laid-out :
         F .names ≡ names-of f → F .args ≡ f .args → BlockDone F s ty at c r c′ made made′ out out′ →
-        BlockDone (frame-of (F .width) f (F .blocks)) s ty at c r c′ made made′ out out′
-    framed names args d =
-        subst (λ (G : Frame). BlockDone G s ty at c r c′ made made′ out out′)
-        (λ i. record { width = F .width; names = names i; args = args i; blocks = F .blocks }) d
+        BlockDone (layout-for (F .width) f (F .end) (F .blocks)) s ty at c r c′ made made′ out out′
+    laid-out names args d =
+        subst (λ (G : Layout). BlockDone G s ty at c r c′ made made′ out out′)
+        (λ i. record { width = F .width; args = args i; names = names i; end = F .end; blocks = F .blocks }) d
 
 module _ (w : ℕ) (f : Function) (s : List ℕ) (p k n : ℕ) (h : 0 < n) where
   abbrev first : Numbered
-  first = numbered-in (frame-of w f 0) s (type-in (f .types)) p k
+  first = numbered-in (layout-for w f 0 0) s (type-in (f .types)) p k
 
   abbrev others : List (Block Instr)
   others = blocks-lvn f (first .temps) (blocks-in w s (block-end w s p) (n - 1))
@@ -105,11 +105,11 @@ module _ {w : ℕ} {f : Function} {s : List ℕ} {at₀ : Spot} {n₀ : ℕ} {ma
       }
 
   pub going-less :
-      (at : Spot) (c : SaveCount) (r : Spot) (c′ : SaveCount) (n m : ℕ) {made made′ out out′ : List ℕ} → 0 < n →
-      BlockDone (frame-of w f m) s (type-in (f .types)) at c r c′ made made′ out out′ →
+      (at : Spot) (c : SaveCount) (r : Spot) (c′ : SaveCount) (n end m : ℕ) {made made′ out out′ : List ℕ} → 0 < n →
+      BlockDone (layout-for w f end m) s (type-in (f .types)) at c r c′ made made′ out out′ →
       Going w f s at₀ n₀ made₀ out₀ at (c .k) n made out →
       Going w f s at₀ n₀ made₀ out₀ r (c′ .k) (n - 1) made′ out′
-  going-less at c r c′ n m h d g =
+  going-less at c r c′ n end m h d g =
       let b = first w f s (at .p) (c .k) n h in
       let bs = others w f s (at .p) (c .k) n h in
       let e : blocks-lvn f (c′ .k) (blocks-in w s (r .p) (n - 1)) ≡ bs =
@@ -133,7 +133,7 @@ module _ {w : ℕ} {f : Function} {s : List ℕ} {at₀ : Spot} {n₀ : ℕ} {ma
 
 -- ---- the count: K and the total grow by the saves of a block alike
 module _
-    {F : Frame} {s : List ℕ} {ty : NameIx → ℕ} {at : Spot} {c : SaveCount} {r : Spot} {c′ : SaveCount} {made made′ out out′ : List ℕ}
+    {F : Layout} {s : List ℕ} {ty : NameIx → ℕ} {at : Spot} {c : SaveCount} {r : Spot} {c′ : SaveCount} {made made′ out out′ : List ℕ}
     (d : BlockDone F s ty at c r c′ made made′ out out′)
   where
     grown : c′ .k ≡ c .k + count-saves (F .names) (numbered-in F s ty (at .p) (c .k) .body)
@@ -157,12 +157,12 @@ module _ {N : ℕ} (w : ℕ) (s : List ℕ) (p n : ℕ) (h : 0 < n) (a : BlocksP
       subst (λ (k : ℕ). BlocksPass N (blocks-in w s k (n - 1))) (sym e) (record { blocks = pass-more .blocks; each = pass-more .each .1 })
 
 pub block-passes :
-    {F : Frame} {s : List ℕ} {at : Spot} {c : SaveCount} {hs ns : List ℕ} → BlocksAsk F s at c 1 hs ns →
+    {F : Layout} {s : List ℕ} {at : Spot} {c : SaveCount} {hs ns : List ℕ} → BlocksAsk F s at c 1 hs ns →
     BlocksPass (F .names) (block-in (F .width) s (at .p) ∷ [])
 block-passes {F} {s} {at} b = pass-first (F .width) s (at .p) 1 (omega arith) (b .passing)
 
 module _
-    {F : Frame} {s : List ℕ} {at : Spot} {c : SaveCount} (n : ℕ) {hs ns : List ℕ} (h : 0 < n) (b : BlocksAsk F s at c n hs ns)
+    {F : Layout} {s : List ℕ} {at : Spot} {c : SaveCount} (n : ℕ) {hs ns : List ℕ} (h : 0 < n) (b : BlocksAsk F s at c n hs ns)
   where
     pub ask-one : BlocksAsk F s at c 1 hs ns
     unfolding blocks-in items

@@ -27,7 +27,7 @@ use Rattle.lvn_state.specs.View.{state-of}
 use Rattle.lvn_state.specs.Room.{room}
 use Rattle.lvn_state.specs.declared.LvnState.{LvnState}
 use Rattle.lvn_state.proofs.Room.{room-of, start-room}
-use Rattle.lvn_blocks.specs.declared.Frame.{Frame}
+use Rattle.read_layout.specs.declared.Layout.{Layout}
 use Rattle.lvn_blocks.specs.declared.Spot.{Spot}
 use Rattle.lvn_blocks.specs.declared.Turn.{Turn}
 use Rattle.lvn_blocks.specs.declared.SaveCount.{SaveCount}
@@ -82,7 +82,7 @@ start-temps : (args k : ℕ) → start args k .temps ≡ k
 unfolding start
 start-temps args k = refl
 
-module _ (F : Frame) (ty : NameIx → ℕ) (s : List ℕ) (p k : ℕ) (h : BlocksPass (F .names) (block-in (F .width) s p ∷ [])) where
+module _ (F : Layout) (ty : NameIx → ℕ) (s : List ℕ) (p k : ℕ) (h : BlocksPass (F .names) (block-in (F .width) s p ∷ [])) where
   pub size-most : num-at s p 2 ≤ 256
   size-most =
       let e = size-again (F .width) s p in
@@ -115,7 +115,7 @@ module _ (F : Frame) (ty : NameIx → ℕ) (s : List ℕ) (p k : ℕ) (h : Block
 
 -- ---- what the body asks; count: how many instructions it has
 pub body-asks :
-    {F : Frame} {s : List ℕ} {at : Spot} {c : SaveCount} (st : LvnState) (count : ℕ) (env homes hs ns hs′ : List ℕ) →
+    {F : Layout} {s : List ℕ} {at : Spot} {c : SaveCount} (st : LvnState) (count : ℕ) (env homes hs ns hs′ : List ℕ) →
     count ≡ num-at s (at .p) 2 →
     BlocksAsk F s at c 1 hs ns →
     length env ≡ 256 →
@@ -168,7 +168,7 @@ head-wrote {out} {m} {out′} {q} {p} w n saves b e f c d =
     (wrote-before 4 head rest l (wrote-last (join (map (instr-bytes w) (b .body))) c) g)
 
 module _
-    {F : Frame} {s hs₀ ns₀ : List ℕ} (count : ℕ) (ty : NameIx → ℕ) (at : Spot) (c : SaveCount) (r : Turn) (st : LvnState)
+    {F : Layout} {s hs₀ ns₀ : List ℕ} (count : ℕ) (ty : NameIx → ℕ) (at : Spot) (c : SaveCount) (r : Turn) (st : LvnState)
     (env homes hs ns : List ℕ) {made made′ out m : List ℕ}
     (many : count ≡ num-at s (at .p) 2)
     (b : BlocksAsk F s at c 1 hs₀ ns₀)

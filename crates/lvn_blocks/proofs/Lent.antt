@@ -27,8 +27,8 @@ use denote.Struct.Declared.{Declared, shape, row as row-of}
 use denote.Struct.Laws as LL
 use denote.Struct.Struct.{layout}
 use Rattle.lvn_blocks.proofs.Relent.{Par, copied, relent, sized}
-use Rattle.lvn_blocks.proofs.Frame as F
-use Rattle.lvn_blocks.proofs.Frame.Laws as F′
+use Rattle.read_layout.proofs.Layout as F
+use Rattle.read_layout.proofs.Layout.Laws as F′
 use Rattle.lvn_blocks.proofs.Spot as S
 use Rattle.lvn_blocks.proofs.Spot.Laws as S′
 

@@ -10,13 +10,13 @@ use borrow.Author.Tests.{eq-eqb, ne-eqb}
 use Rattle.record.specs.declared.NameIx.{NameIx}
 use Rattle.record.specs.Record.{Instr, arg}
 use Rattle.record.specs.Write.{join, instr-bytes}
-use Rattle.numbering.specs.Number.{Emitted, is-save, saved-in}
+use Rattle.numbering.specs.Number.{save-before, Emitted, is-save, saved-in}
 use Rattle.numbering.proofs.Saves.{Saves, no-saves, one-save, Emits, Original, save-is-save, emitted-no-save}
 use Rattle.write_bytes.specs.Put.{put, Wrote}
 use Rattle.write_bytes.proofs.Put.{put-out}
 use Rattle.write_bytes.proofs.Wrote.{wrote-nothing, wrote-append, wrote-last}
 use Rattle.lvn_state.specs.View.{saves-of}
-use Rattle.lvn_blocks.specs.Block.{body-bytes, save-before, saved-by, indexes, lines}
+use Rattle.lvn_blocks.specs.Block.{body-bytes, saved-by, indexes, lines}
 
 -- ---- bytes
 pub body-append : (w : ℕ) (is js : List Instr) → body-bytes w (is ++ js) ≡ body-bytes w is ++ body-bytes w js

@@ -26,7 +26,7 @@ use Rattle.lvn_state.specs.Room.{room}
 use Rattle.lvn_state.proofs.Room.{Grows, instr-grows, room-of, tables-kept}
 use Rattle.lvn_instr.specs.declared.Emitted.{Emitted}
 use Rattle.lvn_instr.specs.View.{emitted-of}
-use Rattle.lvn_blocks.specs.declared.Frame.{Frame}
+use Rattle.read_layout.specs.declared.Layout.{Layout}
 use Rattle.lvn_blocks.specs.declared.Turn.{Turn}
 use Rattle.lvn_blocks.specs.Block.{body-bytes, saved-by, indexes, lines}
 use Rattle.lvn_blocks.specs.Block.{Asks, Turned, body-of, temps-of, Done}
@@ -43,7 +43,7 @@ module _ {N B left : ℕ} (ty : NameIx → ℕ) (s : State) (i : Instr) (h : Ins
   lvn-id b l = subst (λ (n : ℕ). n < b) (sym (lvn-emits .id)) l
 
 module _
-    (F : Frame) {B left : ℕ} {s : List ℕ} (ty : NameIx → ℕ) (t : Turn) (g : Read) (e : Emitted)
+    (F : Layout) {B left : ℕ} {s : List ℕ} (ty : NameIx → ℕ) (t : Turn) (g : Read) (e : Emitted)
     (env homes hs ns env′ homes′ hs′ ns′ : List ℕ)
     (h : InstrOk (F .names) B left (instr-from (F .width) s (t .at .p)))
     (again : ReadAgain (F .width) s (t .at .p) g)
@@ -77,7 +77,7 @@ module _
         }
 
 -- ---- a block by its first instruction
-module _ (F : Frame) (s : List ℕ) (ty : NameIx → ℕ) (st : State) (p n : ℕ) (h : 0 < n) where
+module _ (F : Layout) (s : List ℕ) (ty : NameIx → ℕ) (st : State) (p n : ℕ) (h : 0 < n) where
   abbrev first : EmittedAs
   first = instr-lvn (F .names) ty st (instr-from (F .width) s p)
 
@@ -104,7 +104,7 @@ module _ (F : Frame) (s : List ℕ) (ty : NameIx → ℕ) (st : State) (p n : �
 
 -- ---- the loop: what is left from here gives the whole
 pub record Going
-    (F : Frame) (s : List ℕ) (ty : NameIx → ℕ)
+    (F : Layout) (s : List ℕ) (ty : NameIx → ℕ)
     (t₀ : Turn) (st₀ : State) (n₀ : ℕ) (made₀ out₀ : List ℕ)
     (t : Turn) (st : State) (n : ℕ) (made out : List ℕ) : Type 0 where
   pub written :
@@ -117,7 +117,7 @@ pub record Going
   pub near : t .at .p + longest-instr * n ≤ t₀ .at .p + longest-instr * n₀
   pub close : t .at .q + longest-lines * n ≤ t₀ .at .q + longest-lines * n₀
 
-module _ {F : Frame} {s : List ℕ} {ty : NameIx → ℕ} {t₀ : Turn} {st₀ : State} {n₀ : ℕ} {made₀ out₀ : List ℕ} where
+module _ {F : Layout} {s : List ℕ} {ty : NameIx → ℕ} {t₀ : Turn} {st₀ : State} {n₀ : ℕ} {made₀ out₀ : List ℕ} where
   pub going-all : Going F s ty t₀ st₀ n₀ made₀ out₀ t₀ st₀ n₀ made₀ out₀
   going-all =
       record { written = rest-all; noted = rest-all; temps = refl; next = refl; near = omega arith; close = omega arith }
@@ -172,7 +172,7 @@ passing-more :
 passing-more {N} w s p n h a = subst (Passing N) (instrs-more w s p n h) a
 
 module _
-    {F : Frame} {s env homes : List ℕ} {t : Turn} (n : ℕ) {hs ns : List ℕ} (h : 0 < n) (a : Asks F s env homes t n hs ns)
+    {F : Layout} {s env homes : List ℕ} {t : Turn} (n : ℕ) {hs ns : List ℕ} (h : 0 < n) (a : Asks F s env homes t n hs ns)
   where
     pub asks-passes : Passes (F .names) (instr-from (F .width) s (t .at .p))
     asks-passes = passing-more (F .width) s (t .at .p) n h (a .passing) .0

@@ -3,10 +3,8 @@ use Prim.Native.Nat.{ℕ, _+_, _*_, _<_, _≤_}
 use mathlib.Core.List.{List, [], _∷_, _++_, map}
 use mathlib.Core.Path.{_≡_}
 use lib.ListN.{length}
-use Rattle.arith.specs.declared.One.the-variants.{Id}
-use Rattle.arith.specs.Code.{code1}
 use Rattle.record.specs.declared.NameIx.{NameIx}
-use Rattle.record.specs.Record.{no-lit, Instr, arg}
+use Rattle.record.specs.Record.{Instr, arg}
 use Rattle.record.specs.Write.{join, instr-bytes}
 use Rattle.record.specs.Decode.{instr-from, instr-end}
 use Rattle.record.specs.Again.{instrs-from, instrs-end, Passing}
@@ -16,16 +14,12 @@ use Rattle.numbering.specs.Number.{Emitted, instr-lvn, block-lvn, saved-in}
 use Rattle.write_bytes.specs.Put.{Wrote, IdWidth}
 use Rattle.lvn_state.specs.View.{state-of}
 use Rattle.lvn_state.specs.Room.{room, Tables}
-use Rattle.lvn_blocks.specs.declared.Frame.{Frame}
+use Rattle.read_layout.specs.declared.Layout.{Layout}
 use Rattle.lvn_blocks.specs.declared.Turn.{Turn}
 
 -- ---- writing
 unfoldable pub body-bytes : ℕ → List Instr → List ℕ
 body-bytes w is = join (map (instr-bytes w) is)
-
--- `made = id x` before i, whose dest is x
-abbrev pub save-before : Instr → NameIx → Instr
-save-before i made = record { id = i .id; code = code1 Id; dest = made; lit = no-lit; args = i .dest ∷ []; callee = 0; blocks = [] }
 
 -- what saves save
 abbrev pub saved-by : List Instr → List ℕ
@@ -40,7 +34,7 @@ lines e = e .saves ++ (e .instr ∷ [])
 
 -- ---- what is asked where n instructions are left: that they pass their tests, and that the names of the input, the numbers and made
 -- names that they can need, and the places that they reach all have room
-pub record Asks (F : Frame) (s env homes : List ℕ) (t : Turn) (n : ℕ) (hs ns : List ℕ) : Type 0 where
+pub record Asks (F : Layout) (s env homes : List ℕ) (t : Turn) (n : ℕ) (hs ns : List ℕ) : Type 0 where
   pub width : IdWidth (F .width)
   pub some : 0 < length env
   pub names : F .names ≤ length env
@@ -52,11 +46,11 @@ pub record Asks (F : Frame) (s env homes : List ℕ) (t : Turn) (n : ℕ) (hs ns
   pub passing : Passing (F .names) (instrs-from (F .width) s (t .at .p) n)
 
 -- ---- one instruction done: st is the state before it and st′ behind it; made: the table of what each K saved
-abbrev pub emitted-from : Frame → List ℕ → (NameIx → ℕ) → State → ℕ → Emitted
+abbrev pub emitted-from : Layout → List ℕ → (NameIx → ℕ) → State → ℕ → Emitted
 emitted-from F s ty st p = instr-lvn (F .names) ty st (instr-from (F .width) s p)
 
 pub record Turned
-    (F : Frame) (s : List ℕ) (ty : NameIx → ℕ) (t r : Turn) (st st′ : State) (made made′ out out′ : List ℕ) : Type 0 where
+    (F : Layout) (s : List ℕ) (ty : NameIx → ℕ) (t r : Turn) (st st′ : State) (made made′ out out′ : List ℕ) : Type 0 where
   pub state : st′ ≡ emitted-from F s ty st (t .at .p) .state
   pub written : Wrote out out′ (t .at .q) (r .at .q) (body-bytes (F .width) (lines (emitted-from F s ty st (t .at .p))))
   pub noted : Wrote made made′ (t .st .made) (r .st .made) (indexes (saved-in (F .names) (lines (emitted-from F s ty st (t .at .p)))))
@@ -65,7 +59,7 @@ pub record Turned
   pub close : r .at .q ≤ t .at .q + longest-lines
 
 -- ---- n instructions done
-module _ (F : Frame) (s : List ℕ) (ty : NameIx → ℕ) where
+module _ (F : Layout) (s : List ℕ) (ty : NameIx → ℕ) where
   abbrev pub body-of : State → ℕ → ℕ → List Instr
   body-of st p n = block-lvn (F .names) ty st (instrs-from (F .width) s p n) .body
 
@@ -73,7 +67,7 @@ module _ (F : Frame) (s : List ℕ) (ty : NameIx → ℕ) where
   temps-of st p n = block-lvn (F .names) ty st (instrs-from (F .width) s p n) .temps
 
 pub record Done
-    (F : Frame) (s : List ℕ) (ty : NameIx → ℕ) (t r : Turn) (st : State) (n : ℕ) (made made′ out out′ : List ℕ) : Type 0 where
+    (F : Layout) (s : List ℕ) (ty : NameIx → ℕ) (t r : Turn) (st : State) (n : ℕ) (made made′ out out′ : List ℕ) : Type 0 where
   pub written : Wrote out out′ (t .at .q) (r .at .q) (body-bytes (F .width) (body-of F s ty st (t .at .p) n))
   pub noted : Wrote made made′ (t .st .made) (r .st .made) (indexes (saved-in (F .names) (body-of F s ty st (t .at .p) n)))
   pub temps : r .st .made ≡ temps-of F s ty st (t .at .p) n

@@ -8,25 +8,24 @@ use Rattle.record.specs.Record.{Instr, Block, Function, names-of}
 use Rattle.record.specs.Write.{join, block-bytes}
 use Rattle.record.specs.Decode.{block-end}
 use Rattle.record.specs.Again.{block-in, blocks-in, BlocksPass}
-use Rattle.record.specs.Sizes.{longest-block, longest-block-lines, places-end}
+use Rattle.record.specs.Sizes.{most-names, most-body, most-numbers, longest-block, longest-block-lines, places-end}
 use Rattle.numbering.specs.State.{start}
 use Rattle.numbering.specs.Number.{Numbered, block-lvn, blocks-lvn, count-saves, saved-in, made-from}
 use Rattle.write_bytes.specs.Put.{Wrote, IdWidth}
-use Rattle.lvn_blocks.specs.declared.Frame.{Frame}
+use Rattle.read_layout.specs.declared.Layout.{Layout}
 use Rattle.lvn_blocks.specs.declared.Spot.{Spot}
 use Rattle.lvn_blocks.specs.declared.SaveCount.{SaveCount}
 use Rattle.lvn_blocks.specs.declared.Behind.{Behind}
 use Rattle.lvn_blocks.specs.Block.{indexes}
 
--- ---- what n more blocks ask, from a place on, with the count c before them: that they pass their tests, and that there is room. A block has
--- at most 256 instructions, so with 256 names it needs at most 512 numbers
-pub record BlocksAsk (F : Frame) (s : List ℕ) (at : Spot) (c : SaveCount) (n : ℕ) (hs ns : List ℕ) : Type 0 where
+-- ---- what n more blocks ask, from a place on, with the count c before them: that they pass their tests, and that there is room
+pub record BlocksAsk (F : Layout) (s : List ℕ) (at : Spot) (c : SaveCount) (n : ℕ) (hs ns : List ℕ) : Type 0 where
   pub width : IdWidth (F .width)
-  pub names : F .names ≤ 256
-  pub arguments : F .args ≤ 256
-  pub heads : 512 ≤ length hs
-  pub nums : 512 ≤ length ns
-  pub made : F .names + c .k + 256 * n < 65535
+  pub names : F .names ≤ most-names
+  pub arguments : F .args ≤ most-names
+  pub heads : most-numbers ≤ length hs
+  pub nums : most-numbers ≤ length ns
+  pub made : F .names + c .k + most-body * n < 65535
   pub total : c .total ≤ c .k
   pub reads : at .p + longest-block * n < places-end
   pub writes : at .q + longest-block-lines * n < places-end
@@ -37,12 +36,12 @@ abbrev pub block-as : ℕ → Numbered → Block Instr
 block-as N b = record { saves = count-saves N (b .body); body = b .body }
 
 -- the block at p, numbered with K from k on; ty: the type of a name
-abbrev pub numbered-in : Frame → List ℕ → (NameIx → ℕ) → ℕ → ℕ → Numbered
+abbrev pub numbered-in : Layout → List ℕ → (NameIx → ℕ) → ℕ → ℕ → Numbered
 numbered-in F s ty p k = block-lvn (F .names) ty (start (F .args) k) (block-in (F .width) s p .body)
 
 -- one block done: r is the place behind it, and c′ the count there; made: the table of what each K saved
 pub record BlockDone
-    (F : Frame) (s : List ℕ) (ty : NameIx → ℕ) (at : Spot) (c : SaveCount) (r : Spot) (c′ : SaveCount) (made made′ out out′ : List ℕ)
+    (F : Layout) (s : List ℕ) (ty : NameIx → ℕ) (at : Spot) (c : SaveCount) (r : Spot) (c′ : SaveCount) (made made′ out out′ : List ℕ)
     : Type 0 where
   pub written :
       Wrote out out′ (at .q) (r .q) (block-bytes (F .width) (block-as (F .names) (numbered-in F s ty (at .p) (c .k))))
@@ -52,7 +51,7 @@ pub record BlockDone
   pub next : r .p ≡ block-end (F .width) s (at .p)
   pub near : r .p ≤ at .p + longest-block
   pub close : r .q ≤ at .q + longest-block-lines
-  pub few : c′ .k ≤ c .k + 256
+  pub few : c′ .k ≤ c .k + most-body
 
 -- n blocks done, of a function f, K from 0 on; w: the bytes of an id
 pub record BlocksDone (w : ℕ) (f : Function) (s : List ℕ) (at : Spot) (r : Behind) (n : ℕ) (made made′ out out′ : List ℕ) : Type 0 where

@@ -10,10 +10,12 @@ ghost use Rattle.record.specs.View.{instr-of};
 ghost use Rattle.record.specs.Sizes.{longest-instr, longest-lines, places-end};
 ghost use Rattle.write_bytes.specs.Put.{put, Wrote, IdWidth};
 ghost use Rattle.lvn_state.specs.View.{state-of, saves-of};
-ghost use Rattle.lvn_blocks.specs.Block.{save-before, body-bytes, saved-by, Asks, Turned, Done};
+ghost use Rattle.numbering.specs.Number.{save-before};
+ghost use Rattle.lvn_blocks.specs.Block.{body-bytes, saved-by, Asks, Turned, Done};
 ghost use Rattle.lvn_blocks.specs.Blocks.{BlocksAsk, BlockDone, BlocksDone};
 use arith::One;
 use lvn_state::LvnState;
+use read_layout::Layout;
 use record::Instruction;
 use record::Literal;
 use record::NameIx;
@@ -73,14 +75,6 @@ pub fn note_save(names: &mut [u16], k: u16, i: Instruction, made: NameIx)
     }
 }
 
-// What the head of a record says: the bytes of an id, and how many names, arguments and blocks there are.
-pub struct Frame {
-    pub width: usize,
-    pub names: u16,
-    pub args: u16,
-    pub blocks: usize,
-}
-
 // A place in the input, and the place in the output.
 pub struct Spot {
     pub p: usize,
@@ -103,25 +97,25 @@ pub fn turn_once(
     nums: &mut [u64],
     names: &mut [u16],
     out: &mut [u8],
-    frame: Frame,
+    layout: Layout,
     t: Turn,
 ) -> Turn
-    requires { ⌜ Asks frame (now s) (now env) (now homes) t 1 (now heads) (now nums) ⌝ }
+    requires { ⌜ Asks layout (now s) (now env) (now homes) t 1 (now heads) (now nums) ⌝ }
     ensures { λ r. ⌜
-        Turned frame (now (s .entry)) (type-in (now (types .entry))) t r
+        Turned layout (now (s .entry)) (type-in (now (types .entry))) t r
         (state-of (now (env .entry)) (now (homes .entry)) (t .st) (now (heads .entry)) (now (nums .entry)))
         (state-of (now (env .exit)) (now (homes .exit)) (r .st) (now (heads .exit)) (now (nums .exit)))
         (now (names .entry)) (now (names .exit)) (now (out .entry)) (now (out .exit)) ⌝ }
 {
     let st = t.st;
     let k = st.made;
-    let g = read_instrs::read_instr(s, t.at.p, frame.width);
+    let g = read_instrs::read_instr(s, t.at.p, layout.width);
     let i = g.instr;
-    let e = lvn_instr::instr_lvn(st, env, homes, heads, nums, frame.names, types, i);
+    let e = lvn_instr::instr_lvn(st, env, homes, heads, nums, layout.names, types, i);
     let made = e.made;
     let j = e.instr;
     note_save(names, k, j, made);
-    let q = put_lines(out, t.at.q, frame.width, j, made);
+    let q = put_lines(out, t.at.q, layout.width, j, made);
     let after = e.state;
     Turn {
         st: after,
@@ -139,20 +133,20 @@ pub fn body_lvn(
     nums: &mut [u64],
     names: &mut [u16],
     out: &mut [u8],
-    frame: Frame,
+    layout: Layout,
     t0: Turn,
     count: usize,
 ) -> Turn
-    requires { ⌜ Asks frame (now s) (now env) (now homes) t0 count (now heads) (now nums) ⌝ }
+    requires { ⌜ Asks layout (now s) (now env) (now homes) t0 count (now heads) (now nums) ⌝ }
     ensures { λ r. ⌜
-        Done frame (now (s .entry)) (type-in (now (types .entry))) t0 r
+        Done layout (now (s .entry)) (type-in (now (types .entry))) t0 r
         (state-of (now (env .entry)) (now (homes .entry)) (t0 .st) (now (heads .entry)) (now (nums .entry))) count
         (now (names .entry)) (now (names .exit)) (now (out .entry)) (now (out .exit)) ⌝ }
 {
     let mut t = t0;
     let mut left = count;
     while left > 0 {
-        t = turn_once(s, types, env, homes, heads, nums, names, out, frame, t);
+        t = turn_once(s, types, env, homes, heads, nums, names, out, layout, t);
         left -= 1;
     }
     t
@@ -168,6 +162,11 @@ pub fn put_block_head(out: &mut [u8], at: usize, n: u16, saves: u16)
     write_bytes::put_u16(out, at, n);
     write_bytes::put_u16(out, at + 2, saves);
 }
+
+// The maps of a block: so many names a record may have, and so many numbers a block may need, one for each name and each instruction.
+pub const NAMES: usize = 256;
+
+pub const NUMBERS: usize = 512;
 
 // K, which runs on from block to block, and the saves of all blocks so far.
 pub struct SaveCount {
@@ -190,18 +189,18 @@ pub fn block_lvn(
     nums: &mut [u64],
     names: &mut [u16],
     out: &mut [u8],
-    frame: Frame,
+    layout: Layout,
     at: Spot,
 ) -> Behind
-    requires { ⌜ BlocksAsk frame (now s) at c 1 (now heads) (now nums) ⌝ }
+    requires { ⌜ BlocksAsk layout (now s) at c 1 (now heads) (now nums) ⌝ }
     ensures { λ r. ⌜
-        BlockDone frame (now (s .entry)) (type-in (now (types .entry))) at c (r .at) (r .count)
+        BlockDone layout (now (s .entry)) (type-in (now (types .entry))) at c (r .at) (r .count)
         (now (names .entry)) (now (names .exit)) (now (out .entry)) (now (out .exit)) ⌝ }
 {
     let count = read_fields::be16(s, at.p) as usize;
-    let mut env = [65535u16; 256];
-    let mut homes = [65535u16; 512];
-    let st = lvn_state::start(&mut env, &mut homes, heads, frame.args, c.k);
+    let mut env = [65535u16; NAMES];
+    let mut homes = [65535u16; NUMBERS];
+    let st = lvn_state::start(&mut env, &mut homes, heads, layout.args, c.k);
     let t = body_lvn(
         s,
         types,
@@ -211,7 +210,7 @@ pub fn block_lvn(
         nums,
         names,
         out,
-        frame,
+        layout,
         Turn {
             st: st,
             at: Spot {
@@ -243,15 +242,15 @@ pub fn block_lent(
     nums: &mut [u64],
     names: &mut [u16],
     out: &mut [u8],
-    frame: Frame,
+    layout: Layout,
     at: Spot,
 ) -> Spot
-    requires { ⌜ BlocksAsk frame (now s) at (now count) 1 (now heads) (now nums) ⌝ }
+    requires { ⌜ BlocksAsk layout (now s) at (now count) 1 (now heads) (now nums) ⌝ }
     ensures { λ r. ⌜
-        BlockDone frame (now (s .entry)) (type-in (now (types .entry))) at (now (count .entry)) r (now (count .exit))
+        BlockDone layout (now (s .entry)) (type-in (now (types .entry))) at (now (count .entry)) r (now (count .exit))
         (now (names .entry)) (now (names .exit)) (now (out .entry)) (now (out .exit)) ⌝ }
 {
-    let b = block_lvn(*count, s, types, heads, nums, names, out, frame, at);
+    let b = block_lvn(*count, s, types, heads, nums, names, out, layout, at);
     *count = b.count;
     b.at
 }
@@ -265,16 +264,16 @@ pub fn block_after(
     nums: &mut [u64],
     names: &mut [u16],
     out: &mut [u8],
-    frame: Frame,
+    layout: Layout,
     at: Spot,
 ) -> Behind
-    requires { ⌜ BlocksAsk frame (now s) at c 1 (now heads) (now nums) ⌝ }
+    requires { ⌜ BlocksAsk layout (now s) at c 1 (now heads) (now nums) ⌝ }
     ensures { λ r. ⌜
-        BlockDone frame (now (s .entry)) (type-in (now (types .entry))) at c (r .at) (r .count)
+        BlockDone layout (now (s .entry)) (type-in (now (types .entry))) at c (r .at) (r .count)
         (now (names .entry)) (now (names .exit)) (now (out .entry)) (now (out .exit)) ⌝ }
 {
     let mut count = c;
-    let next = block_lent(&mut count, s, types, heads, nums, names, out, frame, at);
+    let next = block_lent(&mut count, s, types, heads, nums, names, out, layout, at);
     Behind {
         at: next,
         count: count,
@@ -289,22 +288,22 @@ pub fn blocks_lvn(
     nums: &mut [u64],
     names: &mut [u16],
     out: &mut [u8],
-    frame: Frame,
+    layout: Layout,
     at0: Spot,
 ) -> Behind
     requires { ⌜
-        (frame .names ≡ length (now types)) ×
-        BlocksAsk frame (now s) at0 (record { k = 0; total = 0 }) (frame .blocks) (now heads) (now nums) ⌝ }
+        (layout .names ≡ length (now types)) ×
+        BlocksAsk layout (now s) at0 (record { k = 0; total = 0 }) (layout .blocks) (now heads) (now nums) ⌝ }
     ensures { λ r. ⌜
         ((bs : List (Block Instr)) →
-        BlocksDone (frame .width) (record { args = frame .args; types = now (types .entry); blocks = bs }) (now (s .entry)) at0 r
-        (frame .blocks) (now (names .entry)) (now (names .exit)) (now (out .entry)) (now (out .exit))) ⌝ }
+        BlocksDone (layout .width) (record { args = layout .args; types = now (types .entry); blocks = bs }) (now (s .entry)) at0 r
+        (layout .blocks) (now (names .entry)) (now (names .exit)) (now (out .entry)) (now (out .exit))) ⌝ }
 {
     let mut at = at0;
     let mut c = SaveCount { k: 0, total: 0 };
-    let mut left = frame.blocks;
+    let mut left = layout.blocks;
     while left > 0 {
-        let b = block_after(c, s, types, heads, nums, names, out, frame, at);
+        let b = block_after(c, s, types, heads, nums, names, out, layout, at);
         at = b.at;
         c = b.count;
         left -= 1;

@@ -6,13 +6,12 @@ use mathlib.Core.Option.{Option, none, some}
 use lib.Dec.{eqb}
 use lib.ListN.{getD, take}
 use Rattle.arith.specs.declared.One.the-variants.{Not, Id}
-use Rattle.arith.specs.Code.{code1}
 use Rattle.arith.specs.Operation.{Expr, constant, one, two}
 use Rattle.record.specs.declared.NameIx.{NameIx}
-use Rattle.record.specs.Record.{nm, no-lit, Instr}
+use Rattle.record.specs.Record.{nm, Instr}
 use Rattle.numbering.specs.declared.ValNum.{ValNum}
 use Rattle.numbering.specs.State.{vn, State, new-number, update-env}
-use Rattle.numbering.specs.Number.{Saved as SavedAs, get-val-num}
+use Rattle.numbering.specs.Number.{Saved as SavedAs, save-before, get-val-num}
 use Rattle.lvn_values.specs.Table.{vals-of}
 use Rattle.lvn_state.specs.declared.LvnState.{LvnState}
 use Rattle.lvn_state.specs.declared.Saved.{Saved}
@@ -45,11 +44,7 @@ names-in n l = map nm (take n l)
 
 -- the save that is owed before i; 65535 stands for none
 abbrev pub saves-of : NameIx → Instr → List Instr
-saves-of made i =
-    cond
-    (eqb (made .0) 65535)
-    []
-    (record { id = i .id; code = code1 Id; dest = made; lit = no-lit; args = i .dest ∷ []; callee = 0; blocks = [] } ∷ [])
+saves-of made i = cond (eqb (made .0) 65535) [] (save-before i made ∷ [])
 
 abbrev pub saved-of : List ℕ → List ℕ → Saved → List ℕ → List ℕ → Instr → SavedAs
 saved-of env homes r hs ns i = record { state = state-of env homes (r .state) hs ns; saves = saves-of (r .made) i }

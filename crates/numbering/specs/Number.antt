@@ -98,24 +98,14 @@ pub record Saved : Type 0 where
 abbrev pub no-save : State → Saved
 no-save s = record { state = s; saves = [] }
 
+-- the save `made = id x` before i, whose dest is x
+abbrev pub save-before : Instr → NameIx → Instr
+save-before i made = record { id = i .id; code = code1 Id; dest = made; lit = no-lit; args = i .dest ∷ []; callee = 0; blocks = [] }
+
 -- "write the save `_x_lvnK = id x` under the same id, make it the home, and raise K"; N: how many names the input has
 unfoldable pub save : ℕ → State → Instr → ValNum → Saved
 save N s i v =
-    let made = nm (N + s .temps) in
-    record {
-      state = rehome s v made;
-      saves =
-          record {
-            id = i .id;
-            code = code1 Id;
-            dest = made;
-            lit = no-lit;
-            args = i .dest ∷ [];
-            callee = 0;
-            blocks = [];
-          } ∷
-          [];
-    }
+    let made = nm (N + s .temps) in record { state = rehome s v made; saves = save-before i made ∷ [] }
 
 -- "if dest is the home of its present number"
 unfoldable pub save-at : ℕ → State → Instr → Option ValNum → Saved

@@ -18,7 +18,7 @@ ghost use Rattle.read_layout.specs.Layout.{types-from, places-from, bloc
 pub struct Layout {
     pub width: usize,
     pub args: u16,
-    pub names: usize,
+    pub names: u16,
     pub end: usize,
     pub blocks: usize,
 }
@@ -169,12 +169,12 @@ pub fn layout_of(s: &[u8], types: &mut [u8], places: &mut [u32]) -> Layout
         × (now (types .exit) ≡ sets (now (types .entry)) 0 (types-from (now (s .entry)) 8 (names-count (now (s .entry)))))
         × (now (places .exit) ≡ sets (now (places .entry)) 0 (places-from (now (s .entry)) 8 (names-count (now (s .entry))))) ⌝ }
 {
-    let names = read_fields::be16(s, 6) as usize;
-    let end = fill_names(s, types, places, names, 8);
+    let names = read_fields::be16(s, 6);
+    let end = fill_names(s, types, places, names as usize, 8);
     Layout {
         width: id_width(s),
         args: read_fields::byte_or(s, 5) as u16,
-        names,
+        names: names as u16,
         end,
         blocks: read_fields::be16(s, end) as usize,
     }

@@ -2,6 +2,16 @@
 -- of a place and a size wraps.
 use Prim.Native.Nat.{ℕ}
 
+-- the names of a record, the instructions of a block, and the numbers that a block can need, one for each of both
+abbrev pub most-names : ℕ
+most-names = 256
+
+abbrev pub most-body : ℕ
+most-body = 256
+
+abbrev pub most-numbers : ℕ
+most-numbers = 512
+
 -- what stands behind a code: dest, literal, eight arguments and their count, callee, two blocks, as if a code had them all
 abbrev pub longest-operands : ℕ
 longest-operands = 34

@@ -11,7 +11,7 @@ use Rattle.record.specs.Reader.{num-at}
 use Rattle.record.specs.Write.{be, join, name-bytes, block-bytes}
 use Rattle.record.specs.Decode.{names-count, names-end}
 use Rattle.record.specs.Again.{blocks-in, BlocksPass, record-in, Reads, types-in}
-use Rattle.record.specs.Sizes.{longest-names}
+use Rattle.record.specs.Sizes.{most-numbers, longest-names}
 use Rattle.record.proofs.Sizes.{total, total-append}
 use Rattle.record.proofs.Again.{record-again, accepted-blocks, accepted-pass, blocks-again, version-in, args-in, names-in, blocks-number, record-ok, few-original, few-blocks, few-args, names-on, names-lie}
 use Rattle.numbering.specs.Number.{lvn}
@@ -73,8 +73,8 @@ module _ {s : List ℕ} {end : ℕ} (h : Reads s end) where
   pub blocks-ask :
       {types hs ns : List ℕ} (w args at count : ℕ) →
       types ≡ types-in s → w ≡ id-bytes (num-at s 4 1) → args ≡ num-at s 5 1 → count ≡ num-at s end 2 → at ≤ longest-front →
-      512 ≤ length hs → 512 ≤ length ns →
-      BlocksAsk (record { width = w; names = length types; args = args; blocks = count }) s (record { p = end + 2; q = at })
+      most-numbers ≤ length hs → most-numbers ≤ length ns →
+      BlocksAsk (record { width = w; args = args; names = length types; end = end; blocks = count }) s (record { p = end + 2; q = at })
       (record { k = 0; total = 0 }) count hs ns
   blocks-ask w args at count t e a f b i j =
       let n : count ≤ 64 = omega (arith, f, few-blocks h) in

@@ -6,6 +6,7 @@ use lib.ListN.{length, take}
 use Rattle.record.specs.Record.{Instr, Record, id-bytes}
 use Rattle.record.specs.Reader.{got, num-at}
 use Rattle.record.specs.Write.{be, join, name-bytes, block-bytes}
+use Rattle.record.specs.Sizes.{most-body, most-numbers}
 use Rattle.record.specs.Decode.{names-count, record-from}
 use Rattle.record.specs.Again.{record-in, types-in, Reads}
 use Rattle.numbering.specs.Made.{made, rewriting}
@@ -46,9 +47,9 @@ pub record Typed (s ts ps : List ℕ) (end : ℕ) : Type 0 where
 pub record Lent (s ts hs ns ms : List ℕ) (end : ℕ) : Type 0 where
   pub reads : Reads s end
   pub types : ts ≡ types-in s
-  pub heads : 512 ≤ length hs
-  pub nums : 512 ≤ length ns
-  pub names : 256 * num-at s end 2 ≤ length ms
+  pub heads : most-numbers ≤ length hs
+  pub nums : most-numbers ≤ length ns
+  pub names : most-body * num-at s end 2 ≤ length ms
 
 -- the answer and what it leaves of an output are those of the record that stands in these bytes
 abbrev pub Answered : List ℕ → List ℕ → Rewritten → List ℕ → Type 0

@@ -2,9 +2,9 @@
 // behind the names that are made. Otherwise they are numbered twice: over an empty output, which gives the bytes needed and the made
 // names, then over the output.
 use lvn_blocks::Behind;
-use lvn_blocks::Frame;
 use lvn_blocks::Spot;
 use numbering::Rewritten;
+use read_layout::Layout;
 use record::Checked;
 ghost use mathlib.Core.Path.{_≡_};
 ghost use mathlib.Core.List.{_∷_};
@@ -14,6 +14,7 @@ ghost use Rattle.record.specs.Reader.{num-at};
 ghost use Rattle.record.specs.Write.{be, join, bytes};
 ghost use Rattle.record.specs.Answer.{checked};
 ghost use Rattle.record.specs.Decode.{names-count};
+ghost use Rattle.record.specs.Sizes.{most-body};
 ghost use Rattle.record.specs.declared.Checked.the-variants.{Accepted};
 ghost use Rattle.record.specs.Again.{record-in, Reads};
 ghost use Rattle.numbering.specs.Made.{made};
@@ -41,14 +42,15 @@ pub fn put_blocks(
     let w = read_layout::id_bytes(read_fields::byte_or(s, 4));
     let args = read_fields::byte_or(s, 5) as u16;
     let count = read_fields::be16(s, end) as usize;
-    let frame = Frame {
+    let layout = Layout {
         width: w,
-        names: types.len() as u16,
         args: args,
+        names: types.len() as u16,
+        end: end,
         blocks: count,
     };
     let from = Spot { p: end + 2, q: at };
-    lvn_blocks::blocks_lvn(s, types, heads, nums, names, out, frame, from)
+    lvn_blocks::blocks_lvn(s, types, heads, nums, names, out, layout, from)
 }
 
 // All that stands before the blocks: L, version, A and N, the names, B; the place behind it. rest: L; k: how many names are made.
@@ -219,11 +221,11 @@ pub fn rewrite_noting(
     end: usize,
     out: &mut [u8],
 ) -> Rewritten
-    requires { ⌜ Typed (now s) (now types) (now places) end × (256 * num-at (now s) end 2 ≤ length (now names)) ⌝ }
+    requires { ⌜ Typed (now s) (now types) (now places) end × (most-body * num-at (now s) end 2 ≤ length (now names)) ⌝ }
     ensures { λ r. ⌜ Answered (now (s .entry)) (now (out .entry)) r (now (out .exit)) ⌝ }
 {
-    let mut heads = [0u64; 512];
-    let mut nums = [0u64; 512];
+    let mut heads = [0u64; lvn_blocks::NUMBERS];
+    let mut nums = [0u64; lvn_blocks::NUMBERS];
     if out.len() / 8 >= s.len() {
         let size = put_once(s, types, places, &mut heads, &mut nums, names, out, end);
         return Rewritten::Written(size.bytes, size.saves as usize);
@@ -257,10 +259,10 @@ pub fn rewrite_accepted(s: &[u8], out: &mut [u8]) -> Rewritten
         (r ≡ rewrite (now (s .entry)) (now (out .entry))) ×
         (now (out .exit) ≡ rewrite-leaves (now (s .entry)) (now (out .entry))) ⌝ }
 {
-    let mut types = [0u8; 256];
-    let mut places = [0u32; 256];
+    let mut types = [0u8; lvn_blocks::NAMES];
+    let mut places = [0u32; lvn_blocks::NAMES];
     let head = read_layout::layout_of(s, &mut types, &mut places);
-    let count = head.names;
+    let count = head.names as usize;
     rewrite_typed(s, &types[..count], &places, head.end, out)
 }
 

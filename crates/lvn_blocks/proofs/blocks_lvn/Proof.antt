@@ -6,13 +6,13 @@ use native.Mathlib.Omega.{arith}
 use lib.ListN.{length}
 use borrow.Author.Needs.{needs}
 use Rattle.record.specs.Record.{Instr, Block, Function}
-use Rattle.lvn_blocks.specs.declared.Frame.{Frame}
+use Rattle.read_layout.specs.declared.Layout.{Layout}
 use Rattle.lvn_blocks.specs.Blocks.{BlocksAsk}
-use Rattle.lvn_blocks.proofs.Blocks.{framed, Going, going-all, going-none, going-less, alike-less, ask-one, ask-less}
+use Rattle.lvn_blocks.proofs.Blocks.{laid-out, Going, going-all, going-none, going-less, alike-less, ask-one, ask-less}
 use Rattle.lvn_blocks.proofs.blocks_lvn.Statement.{statement}
 use Rattle.lvn_blocks.proofs.blocks_lvn.Tie as tie
 
-abbrev function-of : Frame → List ℕ → List (Block Instr) → Function
+abbrev function-of : Layout → List ℕ → List (Block Instr) → Function
 function-of F ts bs = record { args = F .args; types = ts; blocks = bs }
 
 abbrev Inv-loop : tie.InvT-loop
@@ -55,8 +55,8 @@ loop-again c =
         alike-less (d .ensures) (v .inv .1 .0),
         (
           (λ bs.
-              going-less (v .at) (v .c) (b .at) (b .count) (v .left) (a .frame .blocks) h
-              (framed (a .frame) (function-of (a .frame) (a .types .now) bs) (entry .pre .0) refl (d .ensures)) (v .inv .1 .1 .0 bs)),
+              going-less (v .at) (v .c) (b .at) (b .count) (v .left) (a .layout .end) (a .layout .blocks) h
+              (laid-out (a .layout) (function-of (a .layout) (a .types .now) bs) (entry .pre .0) refl (d .ensures)) (v .inv .1 .1 .0 bs)),
           (e ∙ k .0, (f ∙ k .1 .0, (d .kept .1 .1 .1 .1 .1 .0 ∙ k .1 .1 .0, d .kept .1 .1 .1 .1 .1 .1 .0 ∙ k .1 .1 .1))),
         ),
       ),

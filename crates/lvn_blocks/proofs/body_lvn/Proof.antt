@@ -22,14 +22,14 @@ record Kept (e₀ l₀ hs₀ ns₀ m₀ o₀ e l hs ns m o : List ℕ) : Type 0 
   out : length o ≡ length o₀
 
 abbrev Inv-loop : tie.InvT-loop
-Inv-loop s types env₀ homes₀ heads₀ nums₀ names₀ out₀ frame count t₀ left₀ env homes heads nums names out t left =
-    Asks frame s env homes t left heads nums ×
-    (Going frame s (type-in types) t₀ (state-of env₀ homes₀ (t₀ .st) heads₀ nums₀) count names₀ out₀ t
+Inv-loop s types env₀ homes₀ heads₀ nums₀ names₀ out₀ layout count t₀ left₀ env homes heads nums names out t left =
+    Asks layout s env homes t left heads nums ×
+    (Going layout s (type-in types) t₀ (state-of env₀ homes₀ (t₀ .st) heads₀ nums₀) count names₀ out₀ t
     (state-of env homes (t .st) heads nums) left names out ×
     Kept env₀ homes₀ heads₀ nums₀ names₀ out₀ env homes heads nums names out)
 
 abbrev μ-loop : tie.MeasureT-loop
-μ-loop s types env₀ homes₀ heads₀ nums₀ names₀ out₀ frame count t₀ left₀ env homes heads nums names out t left = left
+μ-loop s types env₀ homes₀ heads₀ nums₀ names₀ out₀ layout count t₀ left₀ env homes heads nums names out t left = left
 
 loop-holds : tie.Need-loop-holds Inv-loop μ-loop
 loop-holds c =

@@ -20,7 +20,7 @@ read-instr-requires c κs =
     let a = c9 .args in
     let p = c9 .pre in
     let ok = asks-passes 1 (omega arith) p .ok in
-    (omega (arith, p .reads), (p .width, instr-readable (instr-from (a .frame .width) (a .s .now) (a .t .at .p)) ok))
+    (omega (arith, p .reads), (p .width, instr-readable (instr-from (a .layout .width) (a .s .now) (a .t .at .p)) ok))
 
 instr-lvn-requires : tie.Need-instr-lvn-requires
 instr-lvn-requires c κs =
@@ -44,13 +44,13 @@ put-lines-requires c κs =
     let e = c15 .instr-lvn in
     let st = state-of (a .env .now) (a .homes .now) (a .t .st) (a .heads .now) (a .nums .now) in
     let ty = type-in (a .types .now) in
-    let i = instr-from (a .frame .width) (a .s .now) (a .t .at .p) in
+    let i = instr-from (a .layout .width) (a .s .now) (a .t .at .p) in
     let k : g .result .instr .id ≡ i .id = ap (λ (x : Instr). x .id) (g .ensures .instr) in
-    let d : e .result .instr .id ≡ instr-lvn (a .frame .names) ty st i .instr .id =
-    ap (λ (x : Emitted). x .instr .id) (e .ensures .0) ∙ ap (λ (x : Instr). instr-lvn (a .frame .names) ty st x .instr .id) (g .ensures .instr) in
-    let id : e .result .instr .id < 256 ^ a .frame .width =
-    subst (λ (n : ℕ). n < 256 ^ a .frame .width) (sym d)
-    (lvn-id ty st i (asks-passes 1 (omega arith) p .ok) (256 ^ a .frame .width) (subst (λ (n : ℕ). n < 256 ^ a .frame .width) k (g .ensures .id))) in
+    let d : e .result .instr .id ≡ instr-lvn (a .layout .names) ty st i .instr .id =
+    ap (λ (x : Emitted). x .instr .id) (e .ensures .0) ∙ ap (λ (x : Instr). instr-lvn (a .layout .names) ty st x .instr .id) (g .ensures .instr) in
+    let id : e .result .instr .id < 256 ^ a .layout .width =
+    subst (λ (n : ℕ). n < 256 ^ a .layout .width) (sym d)
+    (lvn-id ty st i (asks-passes 1 (omega arith) p .ok) (256 ^ a .layout .width) (subst (λ (n : ℕ). n < 256 ^ a .layout .width) k (g .ensures .id))) in
     (omega (arith, p .writes), (p .width, (id, e .ensures .1)))
 
 returns : tie.Need-returns
@@ -64,7 +64,7 @@ returns c =
     let g = c25 .read-instr in
     let e = c19 .instr-lvn in
     let o = c3 .put-lines .ensures in
-    turned (a .frame) (type-in (a .types .now)) (a .t) (g .result) (e .result) (a .env .now) (a .homes .now) (a .heads .now) (a .nums .now)
+    turned (a .layout) (type-in (a .types .now)) (a .t) (g .result) (e .result) (a .env .now) (a .homes .now) (a .heads .now) (a .nums .now)
     (e .last .1 .0) (e .last .1 .1 .0) (e .last .1 .1 .1 .0) (e .last .1 .1 .1 .1 .0)
     (asks-passes 1 (omega arith) (c35 .pre) .ok) (g .ensures) (e .ensures .0) (c7 .note-save .ensures) (o .0) (o .1)
 

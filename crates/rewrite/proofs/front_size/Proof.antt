@@ -1,3 +1,4 @@
+-- `rewrite::front_size` meets its contract: the bytes up to the end of the names, B, and the names that are made.
 use borrow.Author.Needs.{needs}
 use native.Mathlib.Omega.{arith}
 use Rattle.record.proofs.Again.{names-lie}

@@ -1,3 +1,4 @@
+-- `rewrite::measure` meets its contract: the blocks written to nothing, and what stands before them.
 use borrow.Author.Needs.{needs}
 use native.Mathlib.Omega.{arith}
 use Rattle.rewrite.specs.Parts.{rewriting-in}

@@ -1,3 +1,4 @@
+-- `rewrite::put_blocks` meets its contract: the layout of the record, handed to the numbering of its blocks.
 use borrow.Author.Needs.{needs}
 use mathlib.Core.Path.{refl, ap, _∙_}
 use mathlib.Core.List.{[]}

@@ -1,3 +1,4 @@
+-- `rewrite::put_front` meets its contract: each part is written behind the one before it.
 use borrow.Author.Needs.{needs}
 use native.Mathlib.Omega.{arith}
 use Rattle.record.proofs.Again.{few-original, names-on}

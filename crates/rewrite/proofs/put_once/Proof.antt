@@ -1,3 +1,4 @@
+-- `rewrite::put_once` meets its contract: the blocks are written, moved up, and the front is written before them.
 use borrow.Author.Needs.{needs}
 use Prim.Native.Nat.{_+_, _-_}
 use mathlib.Core.Path.{refl}

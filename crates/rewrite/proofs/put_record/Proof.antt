@@ -1,3 +1,4 @@
+-- `rewrite::put_record` meets its contract: the front, and the blocks behind it.
 use borrow.Author.Needs.{needs}
 use mathlib.Core.Path.{refl}
 use native.Mathlib.Omega.{arith}

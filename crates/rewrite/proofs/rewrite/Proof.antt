@@ -1,3 +1,4 @@
+-- `rewrite::rewrite` meets its contract: check decides, and an accepted record is rewritten.
 use borrow.Author.Needs.{needs}
 use mathlib.Core.Path.{sym, _∙_}
 use Rattle.rewrite.proofs.Answers.{refused-result, refused-output}

@@ -1,3 +1,4 @@
+-- `rewrite::rewrite_measured` meets its contract: the size decides, and a record that has room is written.
 use borrow.Author.Needs.{needs}
 use native.Mathlib.Omega.{arith}
 use Rattle.rewrite.proofs.Answers.{room-result, room-output, written-result, written-output}

@@ -1,3 +1,4 @@
+-- `rewrite::rewrite_noting` meets its contract: an output of eight bytes for each has room; any other is measured.
 use borrow.Author.Needs.{needs}
 use native.Mathlib.Omega.{arith}
 use Rattle.rewrite.proofs.Answers.{eight-times, written-result, written-output}

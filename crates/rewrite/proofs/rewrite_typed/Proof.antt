@@ -1,3 +1,4 @@
+-- `rewrite::rewrite_typed` meets its contract: either table has room for the saves of all blocks.
 use borrow.Author.Needs.{needs}
 use native.Mathlib.Omega.{arith}
 use Rattle.record.proofs.Again.{few-blocks}
