@@ -1,9 +1,8 @@
 -- The operations of const and of the codes 1 to 14 on values, and expressions over them.
 -- One definition of each serves the folding of constants and the machine.
 use Prim.Native.Nat.{ℕ}
-use mathlib.Core.Bool.{Bool, true, false, not, _&&_, _||_, cond}
+use mathlib.Core.Bool.{Bool, not, _&&_, _||_, cond}
 use mathlib.Core.Option.{Option, none, some}
-use mathlib.Core.List.{List, [], _∷_}
 use lib.Dec.{eqb}
 use Rattle.arith.specs.declared.One.{One}
 use Rattle.arith.specs.declared.One.the-variants.{Not, Id}

@@ -1,7 +1,7 @@
 -- Types and values. A type is its byte in a record, and every value says which type it is of.
 use Prim.Native.Nat.{ℕ}
 use mathlib.Core.HLevel.{Discrete}
-use mathlib.Core.Bool.{Bool, true, false, _&&_, _||_, Bool-discrete}
+use mathlib.Core.Bool.{Bool, true, _&&_, _||_, Bool-discrete}
 use native.Mathlib.Decide.{ℕ-discrete}
 use lib.Dec.{T, ltb, leb, eqb}
 use Rattle.arith.specs.Word.{W}

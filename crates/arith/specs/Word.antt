@@ -1,7 +1,7 @@
 -- "add, sub, mul modulo 2^64, signed; div truncates (-7 by 2 is -3)": the one arithmetic on ints, which folding and the machine share.
 -- An int is its word: a number below 2^64, in two's complement.
 use Prim.Native.Nat.{ℕ, _+_, _*_, _-_, _/_, _%_}
-use mathlib.Core.Bool.{Bool, true, false, not, cond, xor}
+use mathlib.Core.Bool.{Bool, not, cond, xor}
 use lib.Dec.{ltb, leb}
 
 -- how many words there are, 2^64

@@ -32,7 +32,7 @@ const INT: u64 = 0x00;
 
 const BOOL: u64 = 0x01;
 
-const FLOAT: u64 = 0x02;
+const FLOAT: u64 = record::FLOAT as u64;
 
 const CHAR: u64 = 0x03;
 

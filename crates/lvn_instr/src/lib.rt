@@ -33,9 +33,6 @@ use record::Literal;
 use record::NameIx;
 use record::Op;
 
-// The type byte of float.
-const FLOAT: u8 = 0x02;
-
 // The state behind an instruction, the made name of the save that is written before it, 65535 where none is, and what it is written as.
 pub struct Emitted {
     pub state: LvnState,
@@ -52,7 +49,7 @@ pub fn const_value(l: Literal, t: u8) -> Value
     match l {
         Literal::Int(z) => {
             let w = words::bits_of(z);
-            if t == FLOAT {
+            if t == record::FLOAT {
                 Value::Constant(Constant::IntAsFloat(w))
             } else {
                 Value::Constant(Constant::Int(w))

@@ -16,6 +16,7 @@ use Rattle.record.specs.Form.{Form, pure, new, effect, return, nop, jump, branc
 use Rattle.numbering.specs.declared.ValNum.{ValNum}
 use Rattle.numbering.specs.State.{vn, State, start-env, start, new-number, update-env, rehome, see, see-at, gen-new-vals}
 use Rattle.numbering.specs.Number.{
+use Rattle.numbering.proofs.Saves.{gen-new-vals-temps}
   Saved,
   no-save,
   save,
@@ -219,15 +220,6 @@ module _ (m N : ℕ) (s : State) (i : Instr) where
   form-grows (jump b) = same-grows
   form-grows (branch a b c) = same-grows
 
-gen-temps : (s : State) (xs : List NameIx) → gen-new-vals s xs .temps ≡ s .temps
-unfolding gen-new-vals see new-number
-gen-temps s [] = refl
-gen-temps s (x ∷ xs) = gen-temps (see s x) xs ∙ by (s .env x)
-  where
-    by : (o : Option ValNum) → see-at s x o .temps ≡ s .temps
-    by none = refl
-    by (some v) = refl
-
 pub instr-grows :
     (m N : ℕ) (t : NameIx → ℕ) (s : State) (i : Instr) → Low m (reads (form t i)) → Grows m s (instr-lvn N t s i .state)
 unfolding instr-lvn
@@ -237,7 +229,7 @@ instr-grows m N t s i low =
     let g = form-grows m N seen (rewrite-instr seen xs i) (form t i) in
     record {
       room = subst (λ (n : ℕ). room m (instr-lvn N t s i .state) ≤ suc n) (gen-room m s xs low) (g .room);
-      temps = subst (λ (n : ℕ). instr-lvn N t s i .state .temps ≤ suc n) (gen-temps s xs) (g .temps);
+      temps = subst (λ (n : ℕ). instr-lvn N t s i .state .temps ≤ suc n) (gen-new-vals-temps s xs) (g .temps);
     }
 
 -- ---- a block's start

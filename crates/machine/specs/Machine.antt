@@ -1,6 +1,6 @@
 -- "The plain machine": a store, the world's answers, one step, one block, and a run over any number of blocks.
 use Prim.Native.Nat.{ℕ, zero, suc}
-use mathlib.Core.Bool.{Bool, true, false, cond}
+use mathlib.Core.Bool.{Bool, true, false}
 use mathlib.Core.List.{List, [], _∷_, _++_}
 use mathlib.Core.Option.{Option, none, some}
 use Rattle.arith.specs.Map.{upd}

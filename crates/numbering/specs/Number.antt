@@ -6,7 +6,7 @@ use mathlib.Core.Option.{Option, none, some}
 use lib.Dec.{leb}
 use Rattle.arith.specs.declared.One.the-variants.{Not, Id}
 use Rattle.arith.specs.Map.{pick}
-use Rattle.arith.specs.Equal.{Expr-discrete, map-dec}
+use Rattle.arith.specs.Equal.{Expr-discrete}
 use Rattle.arith.specs.Value.{Val, int, float, literal, char, bool, pointer}
 use Rattle.arith.specs.Operation.{Expr, constant, one, two}
 use Rattle.arith.specs.Code.{code1, code2}

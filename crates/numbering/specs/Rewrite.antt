@@ -4,7 +4,7 @@ use mathlib.Core.Bool.{cond}
 use mathlib.Core.List.{List, [], _∷_, _++_}
 use lib.ListN.{length, drop}
 use lib.Dec.{ltb}
-use Rattle.record.specs.Record.{Instr, Placed, Record, plain, limits}
+use Rattle.record.specs.Record.{Placed, Record, plain, limits}
 use Rattle.record.specs.Reader.{Res, got, fault}
 use Rattle.record.specs.Typing.{accept}
 use Rattle.record.specs.Write.{bytes}

@@ -4,7 +4,7 @@ use mathlib.Core.Bool.{Bool, true, false, cond, Bool·beq}
 use mathlib.Core.Option.{Option, none, some, Option·getD}
 use lib.Dec.{ltb, eqb}
 use Rattle.arith.specs.declared.One.{One}
-use Rattle.arith.specs.declared.One.the-variants.{Not, Id}
+use Rattle.arith.specs.declared.One.the-variants.{Id}
 use Rattle.arith.specs.declared.Two.{Two}
 use Rattle.arith.specs.declared.Two.the-variants.{Add, Sub, Mul, Div, Eq, Lt, Gt, Le, Ge, And, Or, PtrAdd}
 use Rattle.arith.specs.Value.{Val, int, float, literal, char, bool, pointer}

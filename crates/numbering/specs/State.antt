@@ -1,5 +1,5 @@
 -- The state of the numbering of a block (`LvnState`), and its steps.
-use Prim.Native.Nat.{ℕ, zero, suc, _+_}
+use Prim.Native.Nat.{ℕ, suc}
 use mathlib.Core.HLevel.{Discrete}
 use mathlib.Core.Bool.{cond}
 use mathlib.Core.List.{List, [], _∷_}

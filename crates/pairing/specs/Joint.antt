@@ -3,20 +3,19 @@
 use Prim.Native.Nat.{ℕ, suc, _<_}
 use mathlib.Core.Path.{_≡_}
 use mathlib.Core.Logic.{_≢_}
-use mathlib.Core.Bool.{Bool, true, false}
+use mathlib.Core.Bool.{true, false}
 use mathlib.Core.List.{List, [], _∷_}
 use mathlib.Core.Option.{Option, none, some}
 use lib.Dec.{T}
-use Rattle.arith.specs.declared.One.{One}
 use Rattle.arith.specs.declared.One.the-variants.{Not, Id}
 use Rattle.arith.specs.declared.Two.{Two}
 use Rattle.arith.specs.declared.Two.the-variants.{Add, Sub, Mul, Div, Eq, Lt, Gt, Le, Ge, And, Or, PtrAdd}
 use Rattle.arith.specs.Map.{upd}
 use Rattle.arith.specs.Value.{tint, tbool, is-pointer, Val, inRange, HasType}
-use Rattle.arith.specs.Operation.{Result, ok, unset, Expr, constant, one, two, eval}
+use Rattle.arith.specs.Operation.{ok, unset, Expr, constant, one, two, eval}
 use Rattle.record.specs.declared.NameIx.{NameIx}
 use Rattle.record.specs.Record.{NameIx-discrete, Instr, Block}
-use Rattle.record.specs.Form.{Form, pure, new, effect, return, nop, jump, branch, form}
+use Rattle.record.specs.Form.{pure, new, effect, return, nop, jump, branch, form}
 use Rattle.numbering.specs.declared.ValNum.{ValNum}
 use Rattle.numbering.specs.State.{vn, ValNum-discrete, start-env}
 use Rattle.numbering.specs.Number.{reads, is-save, count-saves}

@@ -1,7 +1,7 @@
 -- Laws of an accepted record that is read again: its instructions and blocks pass, and its counts are those of its fields.
-use Prim.Native.Nat.{ℕ, zero, suc, _+_, _-_, _<_, _≤_}
+use Prim.Native.Nat.{ℕ, _+_, _-_, _<_, _≤_}
 use mathlib.Core.Path.{_≡_, refl, ap, _∙_, subst}
-use mathlib.Core.List.{List, [], _∷_, map}
+use mathlib.Core.List.{List, [], _∷_}
 use native.Mathlib.Omega.{arith}
 use lib.ListN.{length, length-map}
 use Rattle.record.specs.Record.{Instr, Placed, Block, Record, plain-block, plain, limits, id-bytes}
@@ -9,7 +9,7 @@ use Rattle.record.specs.Reader.{got, num-at}
 use Rattle.record.specs.Read.{read}
 use Rattle.record.specs.Good.{Each, InstrOk, RecordOk}
 use Rattle.record.specs.Decode.{items, behind, instr-from, instr-end, block-from, block-end, name-from, name-end, names-count, names-end, id-width, record-from}
-use Rattle.record.specs.Again.{instrs-from, instrs-end, Passing, block-in, blocks-in, BlocksPass, record-in, Reads}
+use Rattle.record.specs.Again.{instrs-from, instrs-end, Passing, blocks-in, BlocksPass, record-in, Reads}
 use Rattle.record.proofs.Tests.{at-most-le, names-limit, names-args}
 use Rattle.record.proofs.Accepted.{read-ok}
 use Rattle.record.proofs.Decode.{length-items, read-decodes}

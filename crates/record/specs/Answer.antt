@@ -1,7 +1,7 @@
 -- What the answers say: the number and values of document 01 for each case, and the literals of the code as those of a record.
 use Prim.Native.Nat.{ℕ}
 use mathlib.Core.List.{List, [], _∷_}
-use mathlib.Core.Bool.{Bool, true, false, cond}
+use mathlib.Core.Bool.{cond}
 use mir.Val.{ofZ}
 use mir.Syntax.{w64}
 use lib.Ieee.{binary64, toBits}

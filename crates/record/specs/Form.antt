@@ -1,17 +1,17 @@
 -- What an instruction does, by its code: the view of it that numbering and machine share.
 use Prim.Native.Nat.{ℕ, zero, suc}
-use mathlib.Core.List.{List, [], _∷_}
-use mathlib.Core.Bool.{Bool, true, false, cond, not}
+use mathlib.Core.List.{List}
+use mathlib.Core.Bool.{cond, not}
 use mathlib.Core.Option.{Option, none, some}
 use lib.ListN.{getD}
 use lib.Dec.{leb, eqb}
 use Rattle.arith.specs.declared.One.{One}
 use Rattle.arith.specs.declared.Two.{Two}
-use Rattle.arith.specs.Value.{tfloat, Val, int, float, literal, char, bool, pointer}
+use Rattle.arith.specs.Value.{tfloat, Val, int, float, literal, char, bool}
 use Rattle.arith.specs.Operation.{Expr, constant, one, two}
 use Rattle.arith.specs.Code.{one-of, two-of}
 use Rattle.record.specs.declared.NameIx.{NameIx}
-use Rattle.record.specs.Record.{Lit, Instr, arg}
+use Rattle.record.specs.Record.{Instr, arg}
 
 -- an operation on values; a value that is new each time (20 to 38); an effect that asks the world (67, 68, 70, 71); nop, jmp, br, ret
 pub data Form : Type 0 where

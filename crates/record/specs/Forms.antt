@@ -2,13 +2,13 @@
 use Prim.Native.Nat.{ℕ}
 use mathlib.Core.Path.{_≡_, refl}
 use mathlib.Core.Bool.{true, false}
-use mathlib.Core.List.{List, [], _∷_, map}
+use mathlib.Core.List.{[], _∷_, map}
 use Rattle.arith.specs.declared.One.the-variants.{Not, Id}
 use Rattle.arith.specs.declared.Two.the-variants.{Add, Sub, Mul, Div, Eq, Lt, Gt, Le, Ge, And, Or, PtrAdd}
-use Rattle.arith.specs.Value.{tint, tfloat, Val, int, float, literal, char, bool}
-use Rattle.arith.specs.Operation.{Expr, constant, one, two}
+use Rattle.arith.specs.Value.{tint, tfloat, int, float, literal, char, bool}
+use Rattle.arith.specs.Operation.{constant, one, two}
 use Rattle.arith.specs.Code.{code1, code2, with-code, one-of, two-of}
-use Rattle.record.specs.Record.{nm, Instr}
+use Rattle.record.specs.Record.{nm}
 use Rattle.record.specs.Form.{Form, pure, new, effect, return, nop, jump, branch, value-of, form}
 use Rattle.record.specs.Tables.{count}
 

@@ -6,7 +6,7 @@ use lib.Dec.{ltb, leb, eqb}
 use Rattle.arith.specs.Value.{scalar}
 use Rattle.record.specs.declared.Shape.{Shape}
 use Rattle.record.specs.declared.Refusal.{Refusal}
-use Rattle.record.specs.declared.Refusal.the-variants.{Length, Version, Limit, Text, Code, Name, Types, Place}
+use Rattle.record.specs.declared.Refusal.the-variants.{Length, Version, Limit, Text, Code, Name, Place}
 use Rattle.record.specs.declared.Test.{Test}
 use Rattle.record.specs.declared.Test.the-variants.{Passes, Fails}
 use Rattle.record.specs.Shape.{shape-of}

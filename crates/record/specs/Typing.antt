@@ -1,7 +1,7 @@
 -- "Types follow the pages; a name has one type." Refusal 7 comes after every other test: the first instruction that breaks its rule.
 use Prim.Native.Nat.{ℕ, _+_}
 use mathlib.Core.List.{List, [], _∷_, map}
-use mathlib.Core.Bool.{Bool, true, false, not, _&&_, _||_}
+use mathlib.Core.Bool.{Bool, true, not, _&&_, _||_}
 use lib.Dec.{eqb}
 use Rattle.arith.specs.Value.{tint, tbool, tfloat, tchar, is-pointer}
 use Rattle.record.specs.declared.NameIx.{NameIx}

@@ -1,6 +1,6 @@
 -- The instructions of the code as those of a record: what its contracts say of them.
 use Prim.Native.Nat.{ℕ}
-use mathlib.Core.List.{List, map}
+use mathlib.Core.List.{map}
 use lib.ListN.{take}
 use Rattle.arith.specs.Code.{code1, code2}
 use Rattle.record.specs.declared.Op.{Op}

@@ -2,6 +2,9 @@
 use arith::One;
 use arith::Two;
 
+// The type byte of float.
+pub const FLOAT: u8 = 0x02;
+
 // The index of a name. Value numbers are another kind, ValNum of the crate numbering.
 pub struct NameIx(pub u16);
 

@@ -1,5 +1,5 @@
 -- `lvn_instr::instr_lvn` meets its contract.
-use Prim.Native.Nat.{_+_, _<_, _≤_}
+use Prim.Native.Nat.{_<_, _≤_}
 use mathlib.Core.Path.{_≡_, refl, sym, ap, _∙_, subst}
 use native.Mathlib.Omega.{arith}
 use lib.ListN.{length}

@@ -2,7 +2,6 @@
 use mathlib.Core.Bool.{false}
 use mathlib.Core.Path.{_≡_, sym, _∙_}
 use native.Mathlib.Omega.{arith}
-use lib.ListN.{length}
 use borrow.Author.Needs.{needs}
 use Rattle.numbering.specs.View.{expr-of}
 use Rattle.lvn_state.specs.View.{locs-of, itself}
