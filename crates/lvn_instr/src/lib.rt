@@ -162,7 +162,7 @@ pub fn rewrite_instr(env: &[u16], homes: &[u16], i: Instruction) -> Instruction
     ensures { λ r. ⌜
         ((s : State) → s .env ≡ env-of (now (env .entry)) → s .locs ≡ locs-of (now (homes .entry)) →
         instr-of r ≡ rewrite-instr s (instr-of i .args) (instr-of i)) ×
-        (r .count ≡ i .count) ⌝ }
+        ((r .count ≡ i .count) × (r .op ≡ i .op)) ⌝ }
 {
     let op = i.op;
     let dest = i.dest;
@@ -362,7 +362,6 @@ pub fn has_dest(op: Op) -> bool
 
 // By the operation.
 pub fn emit(
-    op: Op,
     st: LvnState,
     env: &mut [u16],
     homes: &mut [u16],
@@ -376,9 +375,10 @@ pub fn emit(
     ensures { λ r. ⌜
         (emitted-of (now (env .exit)) (now (homes .exit)) r (now (heads .exit)) (now (nums .exit)) ≡
         by-op n (state-of (now (env .entry)) (now (homes .entry)) st (now (heads .entry)) (now (nums .entry)))
-        (instr-of i) op (expr-of v)) ×
+        (instr-of i) (i .op) (expr-of v)) ×
         (r .instr .count ≤ 8) ⌝ }
 {
+    let op = i.op;
     if has_dest(op) {
         place(st, env, homes, heads, nums, n, i, v)
     } else {
@@ -420,10 +420,9 @@ pub fn instr_lvn(
 {
     let dest = i.dest;
     let args = i.args;
-    let op = i.op;
     let t = type_of(types, dest);
     let s = st.gen_new_vals(env, homes, heads, args, i.count);
     let v = make_val(env, heads, nums, s.count, i, t);
     let j = rewrite_instr(env, homes, i);
-    emit(op, s, env, homes, heads, nums, n, j, v)
+    emit(s, env, homes, heads, nums, n, j, v)
 }

@@ -16,7 +16,6 @@ use Rattle.record.specs.Form.{Form, pure, new, effect, return, nop, jump, branc
 use Rattle.numbering.specs.declared.ValNum.{ValNum}
 use Rattle.numbering.specs.State.{vn, State, start-env, start, new-number, update-env, rehome, see, see-at, gen-new-vals}
 use Rattle.numbering.specs.Number.{
-use Rattle.numbering.proofs.Saves.{gen-new-vals-temps}
   Saved,
   no-save,
   save,
@@ -32,6 +31,7 @@ use Rattle.numbering.proofs.Saves.{gen-new-vals-temps}
   rewrite-instr,
   instr-lvn,
 }
+use Rattle.numbering.proofs.Saves.{gen-new-vals-temps}
 use Rattle.lvn_state.specs.declared.LvnState.{LvnState}
 use Rattle.lvn_state.specs.View.{state-of}
 use Rattle.lvn_state.specs.Room.{Low, free, room, Maps, Tables}

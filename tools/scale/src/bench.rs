@@ -94,7 +94,7 @@ enum Output {
 impl Output {
     fn size(self, record: usize, needed: usize) -> usize {
         match self {
-            Output::Ample => 7 * record,
+            Output::Ample => 8 * record,
             Output::Exact => needed,
             Output::Short => needed - 1,
         }

@@ -18,7 +18,7 @@ returns c =
     let a = c19 .args in
     let s = state-of (a .env .now) (a .homes .now) (a .st) (a .heads .now) (a .nums .now) in
     let b = sym (c14 .has-dest .ensures) ∙ c13 .if1 .taken in (
-      c8 .place .ensures .0 ∙ by-dest (a .n) s (instr-of (a .i)) (a .op) (expr-of (a .v)) true b,
+      c8 .place .ensures .0 ∙ by-dest (a .n) s (instr-of (a .i)) (a .i .op) (expr-of (a .v)) true b,
       c8 .place .ensures .1,
     )
 
@@ -34,7 +34,7 @@ returns-2 c =
     let ns = a .nums .now in
     let b = sym (c2 .has-dest .ensures) ∙ c1 .if1 .left in (
       c .unchanged .ensures .0 env homes hs ns ∙
-          by-dest (a .n) (state-of env homes (a .st) hs ns) (instr-of (a .i)) (a .op) (expr-of (a .v)) false b,
+          by-dest (a .n) (state-of env homes (a .st) hs ns) (instr-of (a .i)) (a .i .op) (expr-of (a .v)) false b,
       c .unchanged .ensures .1,
     )
 

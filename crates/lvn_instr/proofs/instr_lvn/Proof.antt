@@ -10,6 +10,7 @@ use Rattle.record.specs.declared.NameIx.{NameIx}
 use Rattle.numbering.specs.View.{expr-of}
 use Rattle.lvn_state.proofs.Room.{tables-kept}
 use Rattle.lvn_state.specs.View.{state-of, names-in}
+use Rattle.lvn_instr.specs.View.{by-op}
 use Rattle.lvn_instr.proofs.Placed.{seen-next, seen-temps, instr-by-op}
 use Rattle.lvn_instr.proofs.instr_lvn.Statement.{statement}
 use Rattle.lvn_instr.proofs.instr_lvn.Tie as tie
@@ -73,7 +74,7 @@ emit-requires c κs =
     let d : r .result .dest ≡ a .i .dest = ap (λ (z : Instr). z .dest) (r .ensures .0 t refl refl) in
     let low : r .result .dest .0 < length (a .env .now) = subst (λ (x : NameIx). x .0 < length (a .env .now)) (sym d) (p .1 .0 .dest) in
     record {
-      few = omega (arith, r .ensures .1, p .0 .few);
+      few = omega (arith, r .ensures .1 .0, p .0 .few);
       dest = omega (arith, e, low);
       number = omega (arith, h, k);
       made = omega (arith, p .1 .1 .1 .0);
@@ -86,21 +87,26 @@ same-length c =
     let c8 = c .before .before .before .before .before .before .before .before in
     let c20 = c8 .before .before .before .before .before .before .before .before .before .before .before .before in
     let c26 = c20 .before .before .before .before .before .before in
-    c8 .emit .kept .1 .1 .0 ∙ c26 .gen-new-vals .kept .1 .0
+    c8 .emit .kept .1 .0 ∙ c26 .gen-new-vals .kept .1 .0
 
 same-length-2 : tie.Need-same-length-2
 same-length-2 c =
     let c8 = c .before .before .before .before .before .before .before .before in
     let c20 = c8 .before .before .before .before .before .before .before .before .before .before .before .before in
     let c26 = c20 .before .before .before .before .before .before in
-    c8 .emit .kept .1 .1 .1 .0 ∙ c26 .gen-new-vals .kept .1 .1 .0
+    c8 .emit .kept .1 .1 .0 ∙ c26 .gen-new-vals .kept .1 .1 .0
 
 same-length-3 : tie.Need-same-length-3
 same-length-3 c =
     let c8 = c .before .before .before .before .before .before .before .before in
     let c20 = c8 .before .before .before .before .before .before .before .before .before .before .before .before in
     let c26 = c20 .before .before .before .before .before .before in
-    c8 .emit .kept .1 .1 .1 .1 .0 ∙ c26 .gen-new-vals .kept .1 .1 .1 .0
+    c8 .emit .kept .1 .1 .1 .0 ∙ c26 .gen-new-vals .kept .1 .1 .1 .0
+
+same-length-4 : tie.Need-same-length-4
+same-length-4 c =
+    let c8 = c .before .before .before .before .before .before .before .before in
+    c8 .emit .kept .1 .1 .1 .1 .0
 
 returns : tie.Need-returns
 unfolding instr-of
@@ -121,7 +127,7 @@ returns c =
     let r = c13 .rewrite-instr in
     let s = state-of (a .env .now) (a .homes .now) (a .st) hs ns in
     let t = state-of (g .last .1 .0) (g .last .1 .1 .0) (g .result) (g .last .1 .1 .1 .0) ns in (
-      c8 .emit .ensures .0 ∙
+      c8 .emit .ensures .0 ∙ ap (λ o. by-op (a .n) t (instr-of (r .result)) o (expr-of (v .result))) (r .ensures .1 .1) ∙
           instr-by-op (a .n) types s (a .i) (p .0) t (instr-of (r .result)) (expr-of (v .result))
           (g .ensures ns) (r .ensures .0 t refl refl) (v .ensures .0 t types (refl, refl) (sym (c30 .type-of .ensures))),
       c8 .emit .ensures .1,
@@ -132,4 +138,4 @@ instr-lvn-spec =
     tie.close
     (tie.spec (λ c κs. search needs) gen-new-vals-requires make-val-requires rewrite-instr-requires emit-requires
     same-length same-length-2 same-length-3
-    (λ c. c .before .before .before .before .before .before .before .before .emit .kept .1 .1 .1 .1 .1 .0) returns)
+    same-length-4 returns)

@@ -20,7 +20,7 @@ returns c = let i = c .before .before .before .before .before .before .args .i i
     callee = i .callee;
     blocks = take (shape-of (code-of (i .op)) .blocks) (i .blocks);
   }),
-  refl,
+  (refl, refl),
 )
 
 pub rewrite-instr-spec : {M : Type 1} → statement M
