@@ -298,24 +298,30 @@ pub fn verdict(n: Num) -> Next
 pub fn one_limited(s: &[u8], at: usize, most: u64) -> Num
     ensures { λ r. ⌜ res r ≡ field 1 (at-most most) (now (s .entry)) at ⌝ }
 {
-    let n = one_at(s, at);
-    tested(n, at_most(most, number(n)), at)
+    match one_at(s, at) {
+        Num::Is(x, p) => judged(at_most(most, x), x, p, at),
+        Num::No(k, o) => Num::No(k, o),
+    }
 }
 
 // A field of two bytes whose number is at most `most`.
 pub fn two_limited(s: &[u8], at: usize, most: u64) -> Num
     ensures { λ r. ⌜ res r ≡ field 2 (at-most most) (now (s .entry)) at ⌝ }
 {
-    let n = two_at(s, at);
-    tested(n, at_most(most, number(n)), at)
+    match two_at(s, at) {
+        Num::Is(x, p) => judged(at_most(most, x), x, p, at),
+        Num::No(k, o) => Num::No(k, o),
+    }
 }
 
 // A name or block number, one of n.
 pub fn index_at(s: &[u8], at: usize, n: u64) -> Next
     ensures { λ r. ⌜ r ≡ verdict (field 2 (below n) (now (s .entry)) at) ⌝ }
 {
-    let i = two_at(s, at);
-    verdict(tested(i, below(n, number(i)), at))
+    match two_at(s, at) {
+        Num::Is(x, p) => verdict(judged(below(n, x), x, p, at)),
+        Num::No(k, o) => Next::Refused(k, o),
+    }
 }
 
 // A row of such numbers.

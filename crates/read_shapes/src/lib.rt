@@ -202,22 +202,28 @@ pub fn literal_test(kind: u64, x: u64) -> Test
 pub fn code_at(s: &[u8], at: usize, last: bool) -> Num
     ensures { λ r. ⌜ res r ≡ field 1 (code-test last) (now (s .entry)) at ⌝ }
 {
-    let n = read_fields::one_at(s, at);
-    read_fields::tested(n, code_test(last, read_fields::number(n)), at)
+    match read_fields::one_at(s, at) {
+        Num::Is(x, p) => read_fields::judged(code_test(last, x), x, p, at),
+        Num::No(k, o) => Num::No(k, o),
+    }
 }
 
 // An argument count.
 pub fn count_at(s: &[u8], at: usize, sh: Shape) -> Num
     ensures { λ r. ⌜ res r ≡ field 1 (count-test sh) (now (s .entry)) at ⌝ }
 {
-    let n = read_fields::one_at(s, at);
-    read_fields::tested(n, count_test(sh, read_fields::number(n)), at)
+    match read_fields::one_at(s, at) {
+        Num::Is(x, p) => read_fields::judged(count_test(sh, x), x, p, at),
+        Num::No(k, o) => Num::No(k, o),
+    }
 }
 
 // The bits of a literal of this kind.
 pub fn bits_at(s: &[u8], at: usize, kind: u64) -> Num
     ensures { λ r. ⌜ res r ≡ field 8 (literal-test kind) (now (s .entry)) at ⌝ }
 {
-    let n = read_fields::eight_at(s, at);
-    read_fields::tested(n, literal_test(kind, read_fields::number(n)), at)
+    match read_fields::eight_at(s, at) {
+        Num::Is(x, p) => read_fields::judged(literal_test(kind, x), x, p, at),
+        Num::No(k, o) => Num::No(k, o),
+    }
 }
