@@ -244,7 +244,12 @@ pub fn rewrite_typed(
     requires { ⌜ Typed (now s) (now types) (now places) end ⌝ }
     ensures { λ r. ⌜ Answered (now (s .entry)) (now (out .entry)) r (now (out .exit)) ⌝ }
 {
-    if read_fields::be16(s, end) <= 4 {
+    let count = read_fields::be16(s, end);
+    if count <= 1 {
+        let mut one = [0u16; 256];
+        return rewrite_noting(s, types, places, &mut one, end, out);
+    }
+    if count <= 4 {
         let mut few = [0u16; 1024];
         return rewrite_noting(s, types, places, &mut few, end, out);
     }
