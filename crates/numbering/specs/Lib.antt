@@ -3,8 +3,10 @@ pub mod Simplify
 pub mod Number
 pub mod Made
 pub mod Rewrite
+pub mod Figures
 pub mod NameText
 pub mod Ways
+pub mod Ahead
 pub mod Program
 pub mod Opened
 pub mod Examples

@@ -29,6 +29,13 @@ pub enum Rewritten {
     Room(usize),
 }
 
+// The answer of figures: bytes needed and saves; a refusal of check with its offset; fewer places than blocks.
+pub enum Figured {
+    Counted(usize, usize),
+    Refused(Refusal, usize),
+    TooFew,
+}
+
 // The answer of name text: the text is handed back; a refusal with its offset; the rewriting does not belong to the input.
 pub enum Named {
     Text,
