@@ -1,3 +1,4 @@
 pub mod Parts
 pub mod Known
+pub mod Judged
 pub mod Answers
