@@ -6,7 +6,7 @@ use mathlib.Core.Logic.{_≢_, _↔_, _⊎_, inl, inr}
 use mathlib.Core.Bool.{Bool, true, false, cond}
 use mathlib.Core.List.{List, [], _∷_, _++_, map}
 use native.Mathlib.Omega.{arith}
-use lib.ListN.{length, getD, take, drop, length-append, length-drop, length-map, List·getD-append}
+use lib.ListN.{length, getD, take, drop, length-append, length-drop, length-map, List·getD-append, replicate, length-replicate}
 use lib.Seq.{take-append-seam, drop-append-seam}
 use lib.Dec.{ltb}
 use borrow.Author.Tests.{ltb-true, ltb-false}
@@ -28,9 +28,9 @@ use Rattle.numbering.specs.declared.Rewritten.the-variants.{Written, Roo
 use Rattle.numbering.specs.declared.Rewritten.the-variants as rewrites
 use Rattle.numbering.specs.Number.{lvn}
 use Rattle.numbering.specs.Made.{made, rewriting}
-use Rattle.numbering.specs.Rewrite.{rewritten-bytes, rewrite}
+use Rattle.numbering.specs.Rewrite.{rewritten-bytes, rewrite, rewrite-leaves}
 use Rattle.numbering.specs.Figures.{instructions, block-figures, figures-result, figures-places, figures, figures-leaves}
-use Rattle.numbering.specs.Ways.{all-saves, Faulty, HasRoom}
+use Rattle.numbering.specs.Ways.{all-saves, Faulty, TooShort, HasRoom}
 use Rattle.numbering.specs.Ahead.{Foretold}
 use Rattle.numbering.proofs.Wide.{BlocksOk, blocks-length, rewriting-passes}
 use Rattle.numbering.proofs.Output.{rewriting-reads-back}
@@ -105,7 +105,10 @@ module _ (s : List ℕ) (r : Record Placed) (p : ℕ) (e : accept limits s ≡ g
   back : ReadsBack wide (rewriting (plain r))
   back = rewriting-reads-back (plain r) good
 
-  abbrev with-room : (out : List ℕ) → length (rewritten-bytes r) ≤ length out → HasRoom s (length out)
+  abbrev needed : ℕ
+  needed = length (rewritten-bytes r)
+
+  abbrev with-room : (out : List ℕ) → needed ≤ length out → HasRoom s (length out)
   with-room out l = record { it = r; end = p; accepted = e; holds = l }
 
   -- the record that is read back has the input's number of blocks
@@ -113,24 +116,48 @@ module _ (s : List ℕ) (r : Record Placed) (p : ℕ) (e : accept limits s ≡ g
   back-many =
       sym (length-map (back .back .blocks) plain-block) ∙ ap (λ q. length (q .blocks)) (back .same) ∙ rewriting-many r
 
+  -- a written output reads back as that record
+  reads-written :
+      (out : List ℕ) → needed ≤ length out → read wide (take needed (rewrite-leaves s out)) 0 ≡ got (back .back) needed
+  unfolding rewritten-bytes
+  reads-written out l =
+      let new = rewritten-bytes r in
+      ap (λ t. read wide (take needed t) 0) (three-ways s out .has-room (with-room out l) .1) ∙
+      ap (λ t. read wide t 0) (take-append-seam new (drop needed out)) ∙
+      back .reads
+
+  -- and as no other
+  written-reads :
+      (out : List ℕ) (n k : ℕ) (q : Record Placed) (m : ℕ) →
+      rewrite s out ≡ Written n k → read wide (take n (rewrite-leaves s out)) 0 ≡ got q m → q ≡ back .back
+  written-reads out n k q m a f = go (ltb (length out) needed) refl
+    where
+      go : (b : Bool) → ltb (length out) needed ≡ b → q ≡ back .back
+      go true l =
+          let t : TooShort s (length out) = record { it = r; end = p; accepted = e; short = ltb-true (length out) needed l } in
+          let c : rewrite s out ≡ Room (length (rewritten-bytes (t .it))) = three-ways s out .too-short t .0 in
+          clash (cc)
+      go false l =
+          let h = ltb-false (length out) needed l in
+          let c : rewrite s out ≡ Written needed (all-saves (rewriting (plain r) .blocks)) = three-ways s out .has-room (with-room out h) .0 in
+          let many : n ≡ needed = cc in
+          let g = ap (λ j. read wide (take j (rewrite-leaves s out)) 0) (sym many) ∙ f in
+          same-value _ q (back .back) m needed g (reads-written out h)
+
   enough-foretell :
       (each : List ℕ) →
       length (r .blocks) ≤ length each →
       figures-leaves s each ≡ block-figures r ++ drop (length (r .blocks)) each →
-      Foretold s each (length (rewritten-bytes r)) (length (made (plain r)))
+      Foretold s each needed (length (made (plain r)))
   unfolding rewritten-bytes block-figures
   enough-foretell each room left =
-      let new = rewritten-bytes r in
       let rest = drop (length (r .blocks)) each in
       let many : length (back .back .blocks) ≡ length (block-figures r) = back-many ∙ sym (figures-many r) in
       record {
-        written = λ out l. three-ways s out .has-room (with-room out l) .0 ∙ ap (Written (length new)) (sym (made-saves r));
+        written = λ out l. three-ways s out .has-room (with-room out l) .0 ∙ ap (Written needed) (sym (made-saves r));
         short = λ out l. three-ways s out .too-short (record { it = r; end = p; accepted = e; short = l }) .0;
         output = back .back;
-        reads = λ out l.
-            ap (λ t. read wide (take (length new) t) 0) (three-ways s out .has-room (with-room out l) .1) ∙
-            ap (λ t. read wide t 0) (take-append-seam new (drop (length new) out)) ∙
-            back .reads;
+        reads = reads-written;
         saves = made-saves r ∙ ap (λ q. all-saves (q .blocks)) (sym (back .same));
         blocks = (λ i. take (many i) (left i)) ∙ take-append-seam (block-figures r) rest ∙
             ap (λ q. map instructions (q .blocks)) (sym (back .same));
@@ -239,6 +266,25 @@ too-few s each = (go (figures-end s each), back (figures-end s each))
         let e = same-value (accept limits s) (t .it) (w .it) (t .end) (w .end) (t .accepted) (w .accepted) in
         let n : length (t .it .blocks) ≡ length (w .it .blocks) = ap (λ r. length (r .blocks)) e in
         absurd (omega (arith, n, t .few, w .enough))
+
+-- ---- nothing else is foretold
+alone-with : (s each out : List ℕ) (n k : ℕ) → n ≤ length out → Foretold s each n k → figures s each ≡ Counted n k
+alone-with s each out n k room f = go (written-was-foretold s each out n k (f .written out room))
+  where
+    go : (figures s each ≡ Counted n k) ⊎ (figures s each ≡ TooFew) → figures s each ≡ Counted n k
+    go (inl a) = a
+    go (inr a) =
+        let t = too-few s each .0 a in
+        let o = written-reads s (t .it) (t .end) (t .accepted) out n k (f .output) n (f .written out room) (f .reads out room) in
+        let b : length (f .output .blocks) ≡ length (t .it .blocks) =
+        ap (λ q. length (q .blocks)) o ∙ back-many s (t .it) (t .end) (t .accepted) in
+        absurd (omega (arith, b, t .few, f .many))
+
+pub foretold-alone : (s each : List ℕ) (n k : ℕ) → Foretold s each n k → figures s each ≡ Counted n k
+foretold-alone s each n k =
+    let out : List ℕ = replicate n 0 in
+    let l : length out ≡ n = length-replicate n 0 in
+    alone-with s each out n k (omega (arith, l))
 
 -- ---- the places
 pub figures-keep-length : (s each : List ℕ) → length (figures-leaves s each) ≡ length each

@@ -38,7 +38,7 @@ use Rattle.numbering.proofs.Output.{accepted-bytes, buffer-suffices}
 use Rattle.numbering.proofs.Made.{saves-of, saves-args, names-from, saves-dests, lvn-makes}
 use Rattle.numbering.proofs.Differ.{texts-differ}
 use Rattle.numbering.proofs.Ways.{made-saves, three-ways, ends-alone}
-use Rattle.numbering.proofs.Ahead.{FewPlaces, figures-foretell, written-was-foretold, room-was-foretold, figures-refuse, too-few, figures-keep-length, figures-untouched}
+use Rattle.numbering.proofs.Ahead.{FewPlaces, figures-foretell, foretold-alone, written-was-foretold, room-was-foretold, figures-refuse, too-few, figures-keep-length, figures-untouched}
 use Rattle.machine.specs.Machine.{Store, Answer, at-unset, run}
 use Rattle.machine.specs.Reached.{read-no-unset}
 use Rattle.pairing.specs.Demand.{shown, stop, Agree, TypedStore, Starts, RunAlike, SavesBounded, All}
@@ -210,6 +210,10 @@ saves-fields f = from 0 (f .blocks)
 -- that holds n, and asks for n in every other; and the places hold, for each block that is then filed, its n, and beyond what they held.
 pub figures-are-rewrites : (s each : List ℕ) (n k : ℕ) → figures s each ≡ Counted n k → Foretold s each n k
 figures-are-rewrites = figures-foretell
+
+-- No other bytes and saves foretell so.
+pub figures-alone : (s each : List ℕ) (n k : ℕ) → Foretold s each n k → figures s each ≡ Counted n k
+figures-alone = foretold-alone
 
 -- Whatever rewrite writes, into any output, was foretold, unless there were too few places.
 pub written-as-foretold :
