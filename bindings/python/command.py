@@ -61,8 +61,6 @@ def tool(word, words):
 def main(word, *words):
     status, out = tool(word, words) if word in TOOL_OF else answer(word)
     try:
-        if sys.stdout is None:  # closed
-            raise OSError
         while out:
             out = out[os.write(1, out):]
     except OSError:
