@@ -1,7 +1,7 @@
 -- From what was measured to the answer of figures and to its places.
 use Prim.Native.Nat.{ℕ, _<_, _≤_}
 use mathlib.Core.Path.{_≡_, refl, sym, ap, _∙_}
-use mathlib.Core.List.{List, _++_, map}
+use mathlib.Core.List.{List, _++_}
 use mathlib.Core.Bool.{true, false}
 use native.Mathlib.Omega.{arith}
 use lib.ListN.{length, drop, length-map}
@@ -9,25 +9,23 @@ use lib.Dec.{ltb}
 use borrow.Author.Tests.{lt-ltb, le-ltb}
 use Rattle.record.specs.declared.Refusal.{Refusal}
 use Rattle.record.specs.declared.Checked.the-variants as answer
-use Rattle.record.specs.Record.{function}
 use Rattle.record.specs.Reader.{got, num-at}
 use Rattle.record.specs.Write.{bytes}
 use Rattle.record.specs.Answer.{checked}
 use Rattle.record.specs.Decode.{names-end, record-from}
 use Rattle.record.specs.Again.{record-in}
 use Rattle.record.proofs.Again.{blocks-number}
+use Rattle.record.proofs.Judged.{accepted-as, refused-as}
 use Rattle.numbering.specs.declared.Figured.the-variants.{Counted, Refused, TooFew}
-use Rattle.numbering.specs.Number.{lvn}
-use Rattle.numbering.specs.Made.{made, rewriting}
+use Rattle.numbering.specs.Made.{made}
 use Rattle.numbering.specs.Rewrite.{rewritten-bytes}
-use Rattle.numbering.specs.Figures.{instructions, block-figures, figures-result, figures-places, figures, figures-leaves}
-use Rattle.numbering.proofs.Wide.{blocks-length}
+use Rattle.numbering.specs.Figures.{block-figures, figures-result, figures-places, figures, figures-leaves}
+use Rattle.numbering.proofs.Ahead.{figures-many}
 use Rattle.write_bytes.specs.Put.{put}
 use Rattle.write_bytes.proofs.Put.{put-first}
 use Rattle.read_layout.specs.declared.Layout.{Layout}
 use Rattle.read_layout.specs.Layout.{layout-of}
 use Rattle.rewrite.specs.Parts.{rewriting-in, figures-in}
-use Rattle.rewrite.proofs.Judged.{accepted-as, refused-as}
 use Rattle.figures.specs.Answers.{FiguredAs}
 
 -- ---- an accepted record: what the definition says of it
@@ -55,12 +53,6 @@ module _ (s each : List ℕ) (count : ℕ) (b : count ≡ num-at s (names-end s)
   many : length (record-from s .blocks) ≡ count
   many = sym (length-map (record-from s .blocks) _) ∙ blocks-number s ∙ sym b
 
-  figures-many : length (figures-in s) ≡ length (record-from s .blocks)
-  unfolding rewriting lvn
-  figures-many =
-      length-map (rewriting-in s .blocks) instructions ∙ blocks-length (function (record-in s)) 0 (record-in s .blocks) ∙
-      length-map (record-from s .blocks) _
-
   few : length each < count → ltb (length each) (length (record-from s .blocks)) ≡ true
   few l = lt-ltb (length each) (length (record-from s .blocks)) (omega (arith, many, l))
 
@@ -78,8 +70,8 @@ module _ (s each : List ℕ) (count : ℕ) (b : count ≡ num-at s (names-end s)
   counted l size saves e =
       rw (enough l) (
         (λ i. Counted (size i) (saves i)),
-        e ∙ put-first each (figures-in s) (omega (arith, many, figures-many, l)) ∙
-            ap (λ (m : ℕ). figures-in s ++ drop m each) figures-many,
+        e ∙ put-first each (figures-in s) (omega (arith, many, figures-many (record-from s), l)) ∙
+            ap (λ (m : ℕ). figures-in s ++ drop m each) (figures-many (record-from s)),
       )
 
 -- ---- B as the head says it

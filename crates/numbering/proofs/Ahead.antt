@@ -1,6 +1,6 @@
 -- The figures of an input foretell what rewrite answers and writes, whatever output it is lent; and which inputs and places have
 -- figures, which are refused, and what is then left of the places.
-use Prim.Native.Nat.{ℕ, zero, suc, _<_, _≤_}
+use Prim.Native.Nat.{ℕ, zero, suc, _≤_}
 use mathlib.Core.Path.{_≡_, refl, sym, ap, _∙_, subst}
 use mathlib.Core.Logic.{_≢_, _↔_, _⊎_, inl, inr}
 use mathlib.Core.Bool.{Bool, true, false, cond}
@@ -31,7 +31,7 @@ use Rattle.numbering.specs.Made.{made, rewriting}
 use Rattle.numbering.specs.Rewrite.{rewritten-bytes, rewrite, rewrite-leaves}
 use Rattle.numbering.specs.Figures.{instructions, block-figures, figures-result, figures-places, figures, figures-leaves}
 use Rattle.numbering.specs.Ways.{all-saves, Faulty, TooShort, HasRoom}
-use Rattle.numbering.specs.Ahead.{Foretold}
+use Rattle.numbering.specs.Ahead.{FewPlaces, Foretold}
 use Rattle.numbering.proofs.Wide.{BlocksOk, blocks-length, rewriting-passes}
 use Rattle.numbering.proofs.Output.{rewriting-reads-back}
 use Rattle.numbering.proofs.Ways.{made-saves, same-value, three-ways}
@@ -53,13 +53,6 @@ figures-small N B (x ∷ xs) h zero = at-most-le 512 (length (x .body)) (h .0 .s
 figures-small N B (x ∷ xs) h (suc b) = figures-small N B xs (h .1) b
 
 -- ---- the ways in which figures ends
--- "the slice has fewer places than blocks"
-pub record FewPlaces (s : List ℕ) (places : ℕ) : Type 0 where
-  pub it : Record Placed
-  pub end : ℕ
-  pub accepted : accept limits s ≡ got it end
-  pub few : places < length (it .blocks)
-
 -- there is a place for each block
 pub record EnoughPlaces (s : List ℕ) (places : ℕ) : Type 0 where
   pub it : Record Placed

@@ -24,11 +24,12 @@ use Rattle.numbering.specs.declared.Figured.the-variants as figured
 use Rattle.numbering.specs.Made.{rewriting}
 use Rattle.numbering.specs.Rewrite.{rewritten-bytes, rewrite, rewrite-leaves}
 use Rattle.numbering.specs.Figures.{figures, figures-leaves}
+use Rattle.numbering.specs.Ahead.{FewPlaces}
 use Rattle.numbering.specs.Ways.{all-saves, Faulty, TooShort, HasRoom, ExactlyOne, first, second, third, Ends}
 use Rattle.numbering.proofs.Ways.{same-value, three-ways}
 use Rattle.pairing.specs.Demand.{RunAlike, SavesBounded}
 use Rattle.pairing.specs.Contract.{Accepted, WrittenAlike, DemandsMet, FiguresMet}
-use Rattle.pairing.proofs.Theorems.{few-saves, reads-as-rewriting, bytes-run-alike, program-has-room, figures-are-rewrites, figures-refused-as-checked, places-stay, refusals-write-no-place}
+use Rattle.pairing.proofs.Theorems.{few-saves, reads-as-rewriting, bytes-run-alike, program-has-room, figures-are-rewrites, figures-refused-as-checked, refused-for-few-places, places-stay, refusals-write-no-place}
 
 -- only an output with room is written
 wrote : {s out left : List ℕ} {answer : Rewritten} → Ends s out answer left → (n k : ℕ) → answer ≡ Written n k → HasRoom s (length out)
@@ -139,6 +140,7 @@ contract-meets-promise s each each′ answer e f =
       counted = λ n k a. figures-are-rewrites s each n k (sym e ∙ a);
       refused = λ k o.
           subst (λ a. (a ≡ figured.Refused k o) ↔ (checked s ≡ check.Refused k o)) (sym e) (figures-refused-as-checked s each k o);
+      too-few = subst (λ a. (a ≡ figured.TooFew) ↔ FewPlaces s (length each)) (sym e) (refused-for-few-places s each);
       untouched = λ h. f ∙ refusals-write-no-place s each (λ n k a. h n k (e ∙ a));
       same-length = ap length f ∙ places-stay s each;
     }

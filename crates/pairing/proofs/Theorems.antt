@@ -30,7 +30,7 @@ use Rattle.numbering.specs.declared.Figured.the-variants.{Counted, Refused, Too
 use Rattle.numbering.specs.Rewrite.{rewritten-bytes, rewrite, rewrite-leaves}
 use Rattle.numbering.specs.Figures.{figures, figures-leaves}
 use Rattle.numbering.specs.Ways.{all-saves, Ends}
-use Rattle.numbering.specs.Ahead.{Foretold}
+use Rattle.numbering.specs.Ahead.{FewPlaces, Foretold}
 use Rattle.numbering.specs.Program.{most-input, buffer-size}
 use Rattle.numbering.proofs.Wide.{rewriting-passes}
 use Rattle.numbering.proofs.Size.{rewriting-room}
@@ -38,7 +38,7 @@ use Rattle.numbering.proofs.Output.{accepted-bytes, buffer-suffices}
 use Rattle.numbering.proofs.Made.{saves-of, saves-args, names-from, saves-dests, lvn-makes}
 use Rattle.numbering.proofs.Differ.{texts-differ}
 use Rattle.numbering.proofs.Ways.{made-saves, three-ways, ends-alone}
-use Rattle.numbering.proofs.Ahead.{FewPlaces, figures-foretell, foretold-alone, written-was-foretold, room-was-foretold, figures-refuse, too-few, figures-keep-length, figures-untouched}
+use Rattle.numbering.proofs.Ahead.{figures-foretell, foretold-alone, written-was-foretold, room-was-foretold, figures-refuse, too-few, figures-keep-length, figures-untouched}
 use Rattle.machine.specs.Machine.{Store, Answer, at-unset, run}
 use Rattle.machine.specs.Reached.{read-no-unset}
 use Rattle.pairing.specs.Demand.{shown, stop, Agree, TypedStore, Starts, RunAlike, SavesBounded, All}

@@ -15,12 +15,12 @@ use Rattle.record.specs.Answer.{checked}
 use Rattle.numbering.specs.declared.Rewritten.{Rewritten}
 use Rattle.numbering.specs.declared.Rewritten.the-variants.{Written, Room}
 use Rattle.numbering.specs.declared.Figured.{Figured}
-use Rattle.numbering.specs.declared.Figured.the-variants.{Counted, Refused}
+use Rattle.numbering.specs.declared.Figured.the-variants.{Counted, Refused, TooFew}
 use Rattle.numbering.specs.Made.{rewriting}
 use Rattle.numbering.specs.Rewrite.{rewrite, rewrite-leaves}
 use Rattle.numbering.specs.Figures.{figures, figures-leaves}
 use Rattle.numbering.specs.Ways.{all-saves, Ends}
-use Rattle.numbering.specs.Ahead.{Foretold}
+use Rattle.numbering.specs.Ahead.{FewPlaces, Foretold}
 use Rattle.numbering.specs.Program.{most-input, buffer-size}
 use Rattle.pairing.specs.Demand.{RunAlike, SavesBounded}
 
@@ -66,6 +66,8 @@ pub record FiguresMet (s each each′ : List ℕ) (answer : Figured) : Type 0 wh
   pub counted : (n k : ℕ) → answer ≡ Counted n k → Foretold s each n k
   -- "after all of check's refusals": each of them comes first, with its offset, however many places there are
   pub refused : (k : Refusal) (o : ℕ) → (answer ≡ Refused k o) ↔ (checked s ≡ check.Refused k o)
+  -- "12: the slice has fewer places than blocks": exactly there
+  pub too-few : (answer ≡ TooFew) ↔ FewPlaces s (length each)
   -- "nothing is written"
   pub untouched : ((n k : ℕ) → answer ≢ Counted n k) → each′ ≡ each
   pub same-length : length each′ ≡ length each

@@ -8,19 +8,18 @@ use lib.ListN.{length, take, replicate, length-replicate}
 use lib.Seq.{sets}
 use lib.Dec.{ltb}
 use borrow.Author.Tests.{lt-ltb, le-ltb}
-use Rattle.arith.proofs.Clash.{clash}
 use Rattle.record.specs.declared.Refusal.{Refusal}
 use Rattle.record.specs.declared.Checked.the-variants as answer
 use Rattle.record.specs.Record.{Placed, Record, plain, limits}
-use Rattle.record.specs.Reader.{Res, got, fault}
+use Rattle.record.specs.Reader.{got}
 use Rattle.record.specs.Read.{read}
-use Rattle.record.specs.Typing.{accept}
 use Rattle.record.specs.Write.{bytes}
-use Rattle.record.specs.Answer.{checked-as, checked}
+use Rattle.record.specs.Answer.{checked}
 use Rattle.record.specs.Decode.{behind, names-count, record-from}
 use Rattle.record.specs.Again.{record-in, Reads, types-in}
 use Rattle.record.proofs.Typed.{accept-typed}
 use Rattle.record.proofs.Again.{record-again, few-names, record-ok}
+use Rattle.record.proofs.Judged.{accepted-as, refused-as}
 use Rattle.record.proofs.ReadSize.{read-size}
 use Rattle.numbering.specs.declared.Rewritten.the-variants.{Written, Refused, Room}
 use Rattle.numbering.specs.Made.{made}
@@ -32,7 +31,6 @@ use Rattle.read_layout.specs.declared.Layout.{Layout}
 use Rattle.read_layout.specs.Layout.{types-from, places-from, NamesAt, layout-of, Bounded}
 use Rattle.read_layout.proofs.Tables.{types-hold, places-hold}
 use Rattle.rewrite.specs.Parts.{rewriting-in}
-use Rattle.rewrite.proofs.Judged.{accepted-as, refused-as}
 
 module _ (s : List ℕ) (h : checked s ≡ answer.Accepted) where
   reads : read limits s 0 ≡ got (record-from s) (accepted-as s h .behind)

@@ -1,4 +1,3 @@
 pub mod Parts
 pub mod Known
-pub mod Judged
 pub mod Answers
