@@ -92,6 +92,16 @@ fn c15() -> Vec<u8> {
     )
 }
 
+/// Three blocks: print x; x = 1, then none, then print x.
+fn three_blocks() -> Vec<u8> {
+    bytes(
+        "00000035 01 00 0001 000178 0003
+        0002 0000 00000001 44 01 0000 00000002 00 0000 00 0000000000000001
+        0000 0000
+        0001 0000 00000003 44 01 0000",
+    )
+}
+
 /// Holds figures to these, with no place up to eight more than there are blocks; places beyond and those of 12 are untouched.
 fn figures_are(input: &[u8], counted: Counted, blocks: &[u16]) {
     for places in 0..blocks.len() + 8 {
@@ -113,6 +123,7 @@ fn figures_are(input: &[u8], counted: Counted, blocks: &[u16]) {
 fn figures_with_each_number_of_places() {
     figures_are(&c1().0, Counted { bytes: 64, saves: 1 }, &[3]);
     figures_are(&c15(), Counted { bytes: 107, saves: 2 }, &[3, 3]);
+    figures_are(&three_blocks(), Counted { bytes: 76, saves: 1 }, &[3, 0, 1]);
     figures_are(&bytes("00000006 01 00 0000 0000"), Counted { bytes: 10, saves: 0 }, &[]);
     let mut most = bytes("00000106 01 00 0000 0040"); // 64 blocks without an instruction
     most.resize(10 + 64 * 4, 0);

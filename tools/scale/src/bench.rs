@@ -1,8 +1,9 @@
-//! Times check and rewrite, the Rust's `lvn`, alone and with decoding and encoding, and the hand port where it is there, on
-//! the same records in one run.
+//! Times check, rewrite and figures, the Rust's `lvn`, alone and with decoding and encoding, and the hand port where it is
+//! there, on the same records in one run.
 
+use crate::cut;
 use crate::handport::{hand_port, HandPort};
-use crate::one::{self, hex, Guarded};
+use crate::one::{self, hex, Lent};
 use crate::rows::{rows, Row};
 use lvn::{Unwritten, Written};
 use oracle::{reader, writer};
@@ -124,10 +125,10 @@ fn hand_port_agrees(hand: &HandPort, record: &[u8], rewriting: &[u8], saves: usi
 
 /// The bytes that each record of a row needs, if all sides answer and write the same.
 fn needed(row: &Row, hand: Option<&HandPort>) -> Result<Vec<usize>, String> {
-    let mut guarded = Guarded::new();
+    let mut lent = Lent::new();
     let of_one = |record: &Vec<u8>| {
         let differs = |what: &str| format!("{}: {what}\n{}", row.name, hex(record));
-        match one::compare(record, &mut guarded).map_err(|e| differs(&e))? {
+        match one::compare(record, &mut lent).map_err(|e| differs(&e))? {
             one::Same::Rewritten(bytes, saves) => match hand {
                 Some(hand) if !hand_port_agrees(hand, record, &rust_whole(record), saves) => {
                     Err(differs("the hand port differs"))
@@ -153,9 +154,19 @@ fn rewriting_time(
     })
 }
 
+/// The time of figures, with as many places as blocks.
+fn figures_time(row: &Row, seconds: u64) -> f64 {
+    let blocks: Vec<usize> = row.records.iter().map(|r| cut::counts(r).len()).collect();
+    let mut each = vec![0; blocks.iter().copied().max().unwrap_or(0)];
+    rounds(row, seconds, |n, record| {
+        black_box(lvn::figures(record, &mut each[..blocks[n]]).is_ok());
+    })
+}
+
 /// Times of a row that are the same for all outputs, ns for a record.
 struct Times {
     check: f64,
+    figures: f64,
     rust: f64,
     rust_whole: f64,
     hand_check: Option<f64>,
@@ -168,7 +179,7 @@ fn line(cells: &[String]) {
 
 fn head(with_hand_port: bool) {
     println!("ns for a record and for an instruction; a ratio is the other's time over ours");
-    let ours = "record, bytes, instructions, check, rewrite, per instr.";
+    let ours = "record, bytes, instructions, check, rewrite, per instr., figures";
     let rust = "Rust, per instr., ratio, Rust bytes to bytes, ratio";
     let hand = if with_hand_port { ", hand port's check, ratio, its rewrite, ratio" } else { "" };
     let cells: Vec<String> = format!("{ours}, {rust}{hand}").split(", ").map(str::to_string).collect();
@@ -199,6 +210,7 @@ fn print_line(
         whole(times.check),
         whole(ours),
         each(ours),
+        whole(times.figures),
         whole(times.rust),
         each(times.rust),
         ratio(times.rust / ours),
@@ -218,6 +230,7 @@ fn times(row: &Row, seconds: u64, hand: Option<&HandPort>) -> Times {
         check: rounds(row, seconds, |_, r| {
             black_box(lvn::check(r).is_ok());
         }),
+        figures: figures_time(row, seconds),
         rust: rust_alone(row, seconds),
         rust_whole: rounds(row, seconds, |_, r| {
             black_box(rust_whole(r));
@@ -235,7 +248,7 @@ pub fn run(seed: u64, seconds: u64) -> bool {
     let hand = hand_port();
     let hand = hand.as_ref();
     head(hand.is_some());
-    let mut growth = vec![];
+    let (mut growth, mut figures) = (vec![], vec![]);
     for row in rows(seed) {
         let needed = match needed(&row, hand) {
             Ok(needed) => needed,
@@ -250,6 +263,7 @@ pub fn run(seed: u64, seconds: u64) -> bool {
             print_line(&row, seconds, &needed, Output::Exact, &times, hand);
             print_line(&row, seconds, &needed, Output::Short, &times, hand);
         }
+        figures.push((times.figures / ours, row.name.clone()));
         if row.name.starts_with("16 blocks") {
             growth.push((ours / row.instructions as f64, times.rust / row.instructions as f64));
         }
@@ -260,5 +274,16 @@ pub fn run(seed: u64, seconds: u64) -> bool {
         last.0 / first.0,
         last.1 / first.1
     );
+    print_figures(&figures);
     true
+}
+
+/// What figures takes beside rewrite with a long output, where most; and the rows in which it takes longer.
+fn print_figures(ratios: &[(f64, String)]) {
+    let longer: Vec<String> = ratios.iter().filter(|r| r.0 > 1.0).map(|r| format!("{} ({:.2})", r.1, r.0)).collect();
+    let (most, name) = ratios.iter().max_by(|a, b| a.0.total_cmp(&b.0)).expect("there are rows");
+    println!("figures takes at most {most:.2} times as long as rewrite ({name})");
+    if !longer.is_empty() {
+        println!("figures takes longer than rewrite: {}", longer.join(", "));
+    }
 }
