@@ -7,13 +7,15 @@ use Rattle.record.specs.declared.Checked.{Checked}
 use Rattle.record.specs.Answer.{check-answer}
 use Rattle.numbering.specs.declared.Rewritten.{Rewritten}
 use Rattle.numbering.specs.Rewrite.{rewrite-answer}
+use Rattle.numbering.specs.declared.Figured.{Figured}
+use Rattle.numbering.specs.Figures.{figures-answer}
 use Rattle.numbering.specs.NameText.{NameText, name-answer}
 use Rattle.write_bytes.specs.Put.{put}
 use Rattle.name_text.specs.declared.Found.{Found}
 use Rattle.name_text.specs.Found.{found, within}
 use Rattle.exports.specs.Values.{value, values, place-values, lies-within}
 
--- ---- check and rewrite
+-- ---- check, rewrite and figures
 -- what the answer b leaves, which is a
 pub check-as : {a b : Checked} → a ≡ b →
     (check-answer b .number ≡ check-answer a .number) × (value (check-answer b) 0 ≡ value (check-answer a) 0)
@@ -22,6 +24,10 @@ check-as e = (ap (λ (x : Checked). check-answer x .number) (sym e), ap (λ (x :
 pub rewrite-as : {a b : Rewritten} → a ≡ b →
     (rewrite-answer b .number ≡ rewrite-answer a .number) × (values (rewrite-answer b) ≡ values (rewrite-answer a))
 rewrite-as e = (ap (λ (x : Rewritten). rewrite-answer x .number) (sym e), ap (λ (x : Rewritten). values (rewrite-answer x)) (sym e))
+
+pub figures-as : {a b : Figured} → a ≡ b →
+    (figures-answer b .number ≡ figures-answer a .number) × (values (figures-answer b) ≡ values (figures-answer a))
+figures-as e = (ap (λ (x : Figured). figures-answer x .number) (sym e), ap (λ (x : Figured). values (figures-answer x)) (sym e))
 
 -- ---- name text
 -- what is found, with the number and the offset of its answer, as the definition's

@@ -1,5 +1,6 @@
-// The library for other languages: check, rewrite and name text, called as C functions. Each returns 0, or the number of its refusal, and
+// The library for other languages: check, rewrite, figures and name text, called as C functions. Each returns 0, or the number of its refusal, and
 // leaves the values that go with it in a lent place; include/lvn.h says the same for C. A slice is a pointer and a length there.
+use numbering::Figured;
 use numbering::Named;
 use numbering::Rewritten;
 use record::Checked;
@@ -7,6 +8,7 @@ ghost use mathlib.Core.Path.{_≡_};
 ghost use mathlib.Core.Bool.{cond};
 ghost use Rattle.record.specs.Answer.{check-answer, checked};
 ghost use Rattle.numbering.specs.Rewrite.{rewrite-answer, rewrite, rewrite-leaves};
+ghost use Rattle.numbering.specs.Figures.{figures-answer, figures, figures-leaves};
 ghost use Rattle.numbering.specs.NameText.{name-answer, name-text};
 ghost use Rattle.write_bytes.specs.Put.{put};
 ghost use Rattle.exports.specs.Values.{value, values, place-values, lies-within};
@@ -54,6 +56,34 @@ pub extern "C" fn lvn_rewrite(input: &[u8], output: &mut [u8], answer: &mut [usi
             answer[0] = n;
             answer[1] = 0;
             9
+        }
+    }
+}
+
+// The figures of a record, worked out without an output. answer: the bytes that its rewriting needs and its saves, and the first places hold
+// the instructions of its blocks; or the offset of the fault and 0; or 0 and 0 where there are fewer places than blocks.
+#[no_mangle]
+pub extern "C" fn lvn_figures(input: &[u8], places: &mut [u16], answer: &mut [usize; 2]) -> u8
+    ensures { λ r. ⌜
+        (r ≡ figures-answer (figures (now (input .entry)) (now (places .entry))) .number) ×
+        ((now (answer .exit) ≡ put (now (answer .entry)) 0 (values (figures-answer (figures (now (input .entry)) (now (places .entry)))))) ×
+        (now (places .exit) ≡ figures-leaves (now (input .entry)) (now (places .entry)))) ⌝ }
+{
+    match figures::figures(input, places) {
+        Figured::Counted(n, k) => {
+            answer[0] = n;
+            answer[1] = k;
+            0
+        }
+        Figured::Refused(k, o) => {
+            answer[0] = o;
+            answer[1] = 0;
+            checker::number_of(k)
+        }
+        Figured::TooFew => {
+            answer[0] = 0;
+            answer[1] = 0;
+            12
         }
     }
 }

@@ -12,8 +12,9 @@ use Rattle.record.specs.Again.{block-in, blocks-in, BlocksPass}
 use Rattle.record.specs.Sizes.{longest-block, longest-block-lines, places-end}
 use Rattle.record.proofs.Rows.{one-more}
 use Rattle.numbering.specs.Number.{Numbered, blocks-lvn, count-saves, saved-in, made-from}
+use Rattle.numbering.specs.Figures.{instructions}
 use Rattle.numbering.proofs.Made.{saved-in-length}
-use Rattle.write_bytes.specs.Put.{Wrote}
+use Rattle.write_bytes.specs.Put.{put, Wrote}
 use Rattle.write_bytes.proofs.Wrote.{Rest, rest-all, rest-less, rest-none}
 use Rattle.read_layout.specs.declared.Layout.{Layout}
 use Rattle.lvn_blocks.specs.declared.Spot.{Spot}
@@ -40,14 +41,18 @@ layout-for w f e n = record { width = w; args = f .args; names = names-of f; end
 
 module _
     (F : Layout) (f : Function) {s : List ℕ} {ty : NameIx → ℕ} {at : Spot} {c : SaveCount} {r : Spot} {c′ : SaveCount}
-    {made made′ out out′ : List ℕ}
+    {made made′ out out′ : List ℕ} {v : ℕ}
   where
+    -- v: how many instructions are written of the block
     pub laid-out :
         F .names ≡ names-of f → F .args ≡ f .args → BlockDone F s ty at c r c′ made made′ out out′ →
-        BlockDone (layout-for (F .width) f (F .end) (F .blocks)) s ty at c r c′ made made′ out out′
-    laid-out names args d =
-        subst (λ (G : Layout). BlockDone G s ty at c r c′ made made′ out out′)
-        (λ i. record { width = F .width; args = args i; names = names i; end = F .end; blocks = F .blocks }) d
+        v ≡ length (numbered-in F s ty (at .p) (c .k) .body) →
+        BlockDone (layout-for (F .width) f (F .end) (F .blocks)) s ty at c r c′ made made′ out out′ ×
+        (v ≡ length (numbered-in (layout-for (F .width) f (F .end) (F .blocks)) s ty (at .p) (c .k) .body))
+    laid-out names args d e =
+        subst
+        (λ (G : Layout). BlockDone G s ty at c r c′ made made′ out out′ × (v ≡ length (numbered-in G s ty (at .p) (c .k) .body)))
+        (λ i. record { width = F .width; args = args i; names = names i; end = F .end; blocks = F .blocks }) (d, e)
 
 module _ (w : ℕ) (f : Function) (s : List ℕ) (p k n : ℕ) (h : 0 < n) where
   abbrev first : Numbered
@@ -72,9 +77,13 @@ module _ (w : ℕ) (f : Function) (s : List ℕ) (p k n : ℕ) (h : 0 < n) where
       ap (all-saved (names-of f)) lvn-more ∙
       map-append (λ (x : NameIx). x .0) (saved-in (names-of f) (first .body)) (made-from (names-of f) others)
 
+  figures-more :
+      map instructions (blocks-lvn f k (blocks-in w s p n)) ≡ instructions (block-as (names-of f) first) ∷ map instructions others
+  figures-more = ap (map instructions) lvn-more
+
 -- ---- the loop: what is left from here gives the whole
 pub record Going
-    (w : ℕ) (f : Function) (s : List ℕ) (at₀ : Spot) (n₀ : ℕ) (made₀ out₀ : List ℕ) (at : Spot) (k n : ℕ) (made out : List ℕ)
+    (w : ℕ) (f : Function) (s : List ℕ) (at₀ : Spot) (n₀ : ℕ) (made₀ each₀ out₀ : List ℕ) (at : Spot) (k n : ℕ) (made each out : List ℕ)
     : Type 0 where
   pub written :
       Rest out (at .q) (all-bytes w (blocks-lvn f k (blocks-in w s (at .p) n))) out₀ (at₀ .q)
@@ -82,18 +91,28 @@ pub record Going
   pub noted :
       Rest made k (all-saved (names-of f) (blocks-lvn f k (blocks-in w s (at .p) n))) made₀ 0
       (all-saved (names-of f) (blocks-lvn f 0 (blocks-in w s (at₀ .p) n₀)))
+  pub figured :
+      Rest each (n₀ - n) (map instructions (blocks-lvn f k (blocks-in w s (at .p) n))) each₀ 0
+      (map instructions (blocks-lvn f 0 (blocks-in w s (at₀ .p) n₀)))
   pub close : at .q + longest-block-lines * n ≤ at₀ .q + longest-block-lines * n₀
 
-module _ {w : ℕ} {f : Function} {s : List ℕ} {at₀ : Spot} {n₀ : ℕ} {made₀ out₀ : List ℕ} where
-  pub going-all : Going w f s at₀ n₀ made₀ out₀ at₀ 0 n₀ made₀ out₀
-  going-all = record { written = rest-all; noted = rest-all; close = omega arith }
+module _ {w : ℕ} {f : Function} {s : List ℕ} {at₀ : Spot} {n₀ : ℕ} {made₀ each₀ out₀ : List ℕ} where
+  pub going-all : Going w f s at₀ n₀ made₀ each₀ out₀ at₀ 0 n₀ made₀ each₀ out₀
+  going-all =
+      let all = map instructions (blocks-lvn f 0 (blocks-in w s (at₀ .p) n₀)) in
+      record {
+        written = rest-all;
+        noted = rest-all;
+        figured = subst (λ (i : ℕ). Rest each₀ i all each₀ 0 all) (omega arith) rest-all;
+        close = omega arith;
+      }
 
   pub going-none :
-      {at : Spot} (c : SaveCount) (n : ℕ) {made out : List ℕ} → n ≡ 0 → c .k ≡ c .total →
-      Going w f s at₀ n₀ made₀ out₀ at (c .k) n made out →
-      BlocksDone w f s at₀ (record { at = at; count = c }) n₀ made₀ made out₀ out
+      {at : Spot} (c : SaveCount) (n : ℕ) {made each out : List ℕ} → n ≡ 0 → c .k ≡ c .total →
+      Going w f s at₀ n₀ made₀ each₀ out₀ at (c .k) n made each out →
+      BlocksDone w f s at₀ (record { at = at; count = c }) n₀ made₀ made each₀ each out₀ out
   unfolding blocks-lvn blocks-in items join made-from
-  going-none {at} c n {made} z t g =
+  going-none {at} c n {made} {each} z t g =
       let e : blocks-lvn f (c .k) (blocks-in w s (at .p) n) ≡ [] =
       ap (λ (m : ℕ). blocks-lvn f (c .k) (blocks-in w s (at .p) m)) z in
       record {
@@ -101,15 +120,22 @@ module _ {w : ℕ} {f : Function} {s : List ℕ} {at₀ : Spot} {n₀ : ℕ} {ma
         noted =
             subst (λ (k : ℕ). Wrote made₀ made 0 k (all-saved (names-of f) (blocks-lvn f 0 (blocks-in w s (at₀ .p) n₀)))) t
             (rest-none _ (ap (all-saved (names-of f)) e) (g .noted));
+        figured =
+            subst (λ (k : ℕ). Wrote each₀ each 0 k (map instructions (blocks-lvn f 0 (blocks-in w s (at₀ .p) n₀)))) (omega (arith, z))
+            (rest-none _ (ap (map instructions) e) (g .figured));
         close = let x : at .q + longest-block-lines * n ≤ at₀ .q + longest-block-lines * n₀ = g .close in omega arith;
       }
 
+  -- v: how many instructions are written of the block
   pub going-less :
-      (at : Spot) (c : SaveCount) (r : Spot) (c′ : SaveCount) (n end m : ℕ) {made made′ out out′ : List ℕ} → 0 < n →
+      (at : Spot) (c : SaveCount) (r : Spot) (c′ : SaveCount) (n end m v : ℕ) {made made′ each each′ out out′ : List ℕ} →
+      0 < n → n ≤ n₀ →
       BlockDone (layout-for w f end m) s (type-in (f .types)) at c r c′ made made′ out out′ →
-      Going w f s at₀ n₀ made₀ out₀ at (c .k) n made out →
-      Going w f s at₀ n₀ made₀ out₀ r (c′ .k) (n - 1) made′ out′
-  going-less at c r c′ n end m h d g =
+      v ≡ length (numbered-in (layout-for w f end m) s (type-in (f .types)) (at .p) (c .k) .body) →
+      each′ ≡ put each (n₀ - n) (v ∷ []) →
+      Going w f s at₀ n₀ made₀ each₀ out₀ at (c .k) n made each out →
+      Going w f s at₀ n₀ made₀ each₀ out₀ r (c′ .k) (n - 1) made′ each′ out′
+  going-less at c r c′ n end m v {each = each} h l d size store g =
       let b = first w f s (at .p) (c .k) n h in
       let bs = others w f s (at .p) (c .k) n h in
       let e : blocks-lvn f (c′ .k) (blocks-in w s (r .p) (n - 1)) ≡ bs =
@@ -125,6 +151,11 @@ module _ {w : ℕ} {f : Function} {s : List ℕ} {at₀ : Spot} {n₀ : ℕ} {ma
             (saved-more w f s (at .p) (c .k) n h ∙
             ap (λ (x : List (Block Instr)). indexes (saved-in (names-of f) (b .body)) ++ all-saved (names-of f) x) (sym e))
             (d .noted) (g .noted);
+        figured =
+            rest-less (length (b .body) ∷ []) _ _
+            (figures-more w f s (at .p) (c .k) n h ∙
+            ap (λ (x : List (Block Instr)). length (b .body) ∷ map instructions x) (sym e))
+            (record { out = store ∙ ap (λ (x : ℕ). put each (n₀ - n) (x ∷ [])) size; end = omega (arith, h, l) }) (g .figured);
         close =
             let x : at .q + longest-block-lines * n ≤ at₀ .q + longest-block-lines * n₀ = g .close in
             let y : r .q ≤ at .q + longest-block-lines = d .close in

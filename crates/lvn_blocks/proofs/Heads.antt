@@ -223,3 +223,23 @@ module _
           close = let x : r .at .q ≤ at .q + 4 + longest-lines * count = d .close in omega (arith, x, n);
           few = head-fits .1 .1 .0;
         }
+
+-- ---- how many instructions are written of a block, by its own count and by how the total of saves grew
+module _
+    {F : Layout} {s hs ns : List ℕ} {ty : NameIx → ℕ} {at : Spot} {c : SaveCount} {r : Spot} {c′ : SaveCount}
+    {made made′ out out′ : List ℕ}
+    (b : BlocksAsk F s at c 1 hs ns)
+    (d : BlockDone F s ty at c r c′ made made′ out out′)
+  where
+    pub block-figure : num-at s (at .p) 2 + (c′ .total - c .total) ≡ length (numbered-in F s ty (at .p) (c .k) .body)
+    block-figure =
+        let h = block-passes b in
+        omega (arith, lines-many F ty s (at .p) (c .k) h, saves-many F ty s (at .p) (c .k) h, d .total)
+
+    pub figure-fits : (c .total ≤ c′ .total) × (num-at s (at .p) 2 + (c′ .total - c .total) < 65536)
+    figure-fits =
+        let h = block-passes b in
+        let saved = saves-many F ty s (at .p) (c .k) h in (
+          omega (arith, d .total),
+          omega (arith, d .total, saved, size-most F ty s (at .p) (c .k) h, temps-most F ty s (at .p) (c .k) h),
+        )

@@ -1,6 +1,6 @@
 -- What the code has behind the last block of a record is what the rewriting has.
 use Prim.Native.Nat.{ℕ, _+_}
-use mathlib.Core.Path.{_≡_, sym, subst}
+use mathlib.Core.Path.{_≡_, sym, ap, _∙_, subst}
 use mathlib.Core.List.{List, map}
 use native.Mathlib.Omega.{arith}
 use lib.ListN.{length, length-map}
@@ -10,7 +10,8 @@ use Rattle.record.specs.Write.{join, block-bytes}
 use Rattle.record.specs.Again.{blocks-in}
 use Rattle.numbering.specs.Number.{blocks-lvn, made-from, lvn}
 use Rattle.numbering.specs.Made.{made}
-use Rattle.write_bytes.specs.Put.{Wrote}
+use Rattle.numbering.specs.Figures.{instructions}
+use Rattle.write_bytes.specs.Put.{put, Wrote}
 use Rattle.lvn_blocks.specs.declared.Spot.{Spot}
 use Rattle.lvn_blocks.specs.declared.Behind.{Behind}
 use Rattle.lvn_blocks.specs.Block.{indexes}
@@ -18,10 +19,10 @@ use Rattle.lvn_blocks.specs.Blocks.{BlocksDone}
 
 -- ---- what the code has behind the last block
 module _
-    {w : ℕ} {s : List ℕ} {at : Spot} {r : Behind} {n : ℕ} {names names′ out out′ : List ℕ}
+    {w : ℕ} {s : List ℕ} {at : Spot} {r : Behind} {n : ℕ} {names names′ each each′ out out′ : List ℕ}
     (x : Record Instr)
     (same : x .blocks ≡ blocks-in w s (at .p) n)
-    (done : BlocksDone w (function x) s at r n names names′ out out′)
+    (done : BlocksDone w (function x) s at r n names names′ each each′ out out′)
   where
     whole : blocks-lvn (function x) 0 (blocks-in w s (at .p) n) ≡ lvn (function x) .blocks
     unfolding lvn
@@ -43,3 +44,7 @@ module _
         let e : r .count .total ≡ 0 + length (indexes (made x)) = made-noted .end in
         let f : length (indexes (made x)) ≡ length (made x) = length-map (made x) (λ (y : NameIx). y .0) in
         omega arith
+
+    -- the places hold how many instructions each block has
+    pub instructions-noted : each′ ≡ put each 0 (map instructions (lvn (function x) .blocks))
+    instructions-noted = done .figured .out ∙ ap (λ (bs : List (Block Instr)). put each 0 (map instructions bs)) whole

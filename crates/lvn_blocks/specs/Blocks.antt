@@ -11,6 +11,7 @@ use Rattle.record.specs.Again.{block-in, blocks-in, BlocksPass}
 use Rattle.record.specs.Sizes.{most-names, most-body, most-numbers, longest-block, longest-block-lines, places-end}
 use Rattle.numbering.specs.State.{start}
 use Rattle.numbering.specs.Number.{Numbered, block-lvn, blocks-lvn, count-saves, saved-in, made-from}
+use Rattle.numbering.specs.Figures.{instructions}
 use Rattle.write_bytes.specs.Put.{Wrote, IdWidth}
 use Rattle.read_layout.specs.declared.Layout.{Layout}
 use Rattle.lvn_blocks.specs.declared.Spot.{Spot}
@@ -53,9 +54,11 @@ pub record BlockDone
   pub close : r .q ≤ at .q + longest-block-lines
   pub few : c′ .k ≤ c .k + most-body
 
--- n blocks done, of a function f, K from 0 on; w: the bytes of an id
-pub record BlocksDone (w : ℕ) (f : Function) (s : List ℕ) (at : Spot) (r : Behind) (n : ℕ) (made made′ out out′ : List ℕ) : Type 0 where
+-- n blocks done, of a function f, K from 0 on; w: the bytes of an id; each: the table of their instructions
+pub record BlocksDone
+    (w : ℕ) (f : Function) (s : List ℕ) (at : Spot) (r : Behind) (n : ℕ) (made made′ each each′ out out′ : List ℕ) : Type 0 where
   pub written : Wrote out out′ (at .q) (r .at .q) (join (map (block-bytes w) (blocks-lvn f 0 (blocks-in w s (at .p) n))))
   pub noted :
       Wrote made made′ 0 (r .count .total) (indexes (made-from (names-of f) (blocks-lvn f 0 (blocks-in w s (at .p) n))))
+  pub figured : Wrote each each′ 0 n (map instructions (blocks-lvn f 0 (blocks-in w s (at .p) n)))
   pub close : r .at .q ≤ at .q + longest-block-lines * n

@@ -5,6 +5,7 @@ ghost use mathlib.Core.List.{List, [], _∷_, _++_};
 ghost use Prim.Native.Nat.{_+_, _^_, _<_, _≤_};
 ghost use lib.ListN.{length};
 ghost use Rattle.record.specs.Record.{Instr, Block, type-in};
+ghost use Rattle.record.specs.Reader.{num-at};
 ghost use Rattle.record.specs.Write.{be};
 ghost use Rattle.record.specs.View.{instr-of};
 ghost use Rattle.record.specs.Sizes.{longest-instr, longest-lines, places-end};
@@ -280,13 +281,24 @@ pub fn block_after(
     }
 }
 
-// All blocks, from a place on; types: the types of the names.
+// How many instructions are written of the block at p, which has so many saves, at the place i of a table.
+pub fn note_figure(s: &[u8], each: &mut [u16], i: usize, p: usize, saves: u16)
+    requires { ⌜ (p < places-end) × (num-at (now s) p 2 + saves < 65536) ⌝ }
+    ensures { λ _. ⌜ now (each .exit) ≡ put (now (each .entry)) i ((num-at (now (s .entry)) p 2 + saves) ∷ []) ⌝ }
+{
+    if i < each.len() {
+        each[i] = read_fields::be16(s, p) as u16 + saves;
+    }
+}
+
+// All blocks, from a place on; types: the types of the names; each: a table for how many instructions are written of each block.
 pub fn blocks_lvn(
     s: &[u8],
     types: &[u8],
     heads: &mut [u64],
     nums: &mut [u64],
     names: &mut [u16],
+    each: &mut [u16],
     out: &mut [u8],
     layout: Layout,
     at0: Spot,
@@ -297,13 +309,15 @@ pub fn blocks_lvn(
     ensures { λ r. ⌜
         ((bs : List (Block Instr)) →
         BlocksDone (layout .width) (record { args = layout .args; types = now (types .entry); blocks = bs }) (now (s .entry)) at0 r
-        (layout .blocks) (now (names .entry)) (now (names .exit)) (now (out .entry)) (now (out .exit))) ⌝ }
+        (layout .blocks) (now (names .entry)) (now (names .exit)) (now (each .entry)) (now (each .exit)) (now (out .entry))
+        (now (out .exit))) ⌝ }
 {
     let mut at = at0;
     let mut c = SaveCount { k: 0, total: 0 };
     let mut left = layout.blocks;
     while left > 0 {
         let b = block_after(c, s, types, heads, nums, names, out, layout, at);
+        note_figure(s, each, layout.blocks - left, at.p, b.count.total - c.total);
         at = b.at;
         c = b.count;
         left -= 1;

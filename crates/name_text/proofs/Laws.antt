@@ -8,22 +8,18 @@ use native.Mathlib.Omega.{arith}
 use lib.ListN.{length, getD, take, drop}
 use lib.Dec.{ltb, eqb}
 use borrow.Author.Tests.{lt-ltb, le-ltb, lt-leb, le-leb, eq-eqb, ne-eqb}
-use Rattle.arith.proofs.Clash.{clash}
 use Rattle.record.specs.declared.Refusal.{Refusal}
 use Rattle.record.specs.declared.Refusal.the-variants.{Length, Name}
 use Rattle.record.specs.declared.Test.the-variants.{Passes}
 use Rattle.record.specs.declared.Next.{Next}
 use Rattle.record.specs.declared.Next.the-variants as next
 use Rattle.record.specs.declared.Checked.the-variants as checks
-use Rattle.record.specs.Record.{Placed, Record, limits}
 use Rattle.record.specs.Reader.{Res, got, fault, refuse, give, here, num-at, field, text, times}
 use Rattle.record.specs.Tests.{any}
-use Rattle.record.specs.Typing.{accept}
-use Rattle.record.specs.Answer.{verdict, checked, checked-as}
+use Rattle.record.specs.Answer.{verdict, checked}
 use Rattle.record.specs.Decode.{behind, name-end, record-from}
 use Rattle.record.proofs.Takes.{bind-got}
-use Rattle.record.proofs.Decode.{read-decodes}
-use Rattle.record.proofs.Typed.{accept-typed}
+use Rattle.record.proofs.Judged.{accepted-as, refused-as}
 use Rattle.record.proofs.Fields.{field-tells, text-tells}
 use Rattle.record.proofs.Following.{verdict-got, verdict-fault, read-no, read-is, here-is, made}
 use Rattle.numbering.specs.declared.Named.{Named}
@@ -229,25 +225,15 @@ module _ (version : ℕ) (s : List ℕ) where
 -- ---- the input's check
 module _ (a r : List ℕ) (i : ℕ) where
   pub input-refused : (k : Refusal) (o : ℕ) → checked a ≡ checks.Refused k o → refused (Refused k o) ≡ name-text a r i
-  unfolding checked name-text with-input
-  input-refused k o e = go (accept limits a) e
-    where
-      go : (z : Res (Record Placed)) → checked-as z ≡ checks.Refused k o → refused (Refused k o) ≡ with-input a r i z
-      go (got x p) e = clash (cc)
-      go (fault k′ o′) e = cc
+  unfolding name-text with-input
+  input-refused k o e = sym (ap (with-input a r i) (refused-as a k o e))
 
   input-accepted : (v : ℕ) → checked a ≡ checks.Accepted → v ≡ num-at a 4 1 →
       cond (headed v r) (from-parts i (parts-of false a) (parts-of true r)) (refused Mismatch) ≡ name-text a r i
-  unfolding checked name-text with-input record-from
-  input-accepted v e ev = go (accept limits a) refl e
-    where
-      go : (z : Res (Record Placed)) → accept limits a ≡ z → checked-as z ≡ checks.Accepted →
-          cond (headed v r) (from-parts i (parts-of false a) (parts-of true r)) (refused Mismatch) ≡ with-input a r i z
-      go (got x p) h e =
-          let d = read-decodes limits a .told x p (accept-typed limits a x p h .reads) in
-          let same : v ≡ x .version = ev ∙ sym (ap (λ (y : Record Placed). y .version) (d .0)) in
-          ap (λ (v : ℕ). cond (headed v r) (from-parts i (parts-of false a) (parts-of true r)) (refused Mismatch)) same
-      go (fault k o) h e = clash (cc)
+  unfolding name-text with-input record-from
+  input-accepted v e ev =
+      ap (λ (v : ℕ). cond (headed v r) (from-parts i (parts-of false a) (parts-of true r)) (refused Mismatch)) ev ∙
+      sym (ap (with-input a r i) (accepted-as a e .got))
 
   module _ (v : ℕ) (e : checked a ≡ checks.Accepted) (ev : v ≡ num-at a 4 1) where
     pub when-headed : headed v r ≡ true → from-parts i (parts-of false a) (parts-of true r) ≡ name-text a r i

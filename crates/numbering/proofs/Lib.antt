@@ -14,3 +14,4 @@ pub mod Range
 pub mod Output
 pub mod Differ
 pub mod Ways
+pub mod Ahead

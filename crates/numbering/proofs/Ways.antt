@@ -14,6 +14,7 @@ use Rattle.record.specs.Record.{Placed, Record, plain, function, limits}
 use Rattle.record.specs.Reader.{Res, got, fault}
 use Rattle.record.specs.Typing.{accept}
 use Rattle.record.specs.Answer.{checked-as, checked}
+use Rattle.record.proofs.Judged.{refused-as}
 use Rattle.numbering.specs.declared.Rewritten.{Rewritten}
 use Rattle.numbering.specs.declared.Rewritten.the-variants.{Written, Refused, Room}
 use Rattle.numbering.specs.Number.{lvn}
@@ -35,13 +36,8 @@ only-one (second a b c) = (λ p. a (p .0), (λ p. a (p .0), λ p. c (p .1)))
 only-one (third a b c) = (λ p. a (p .0), (λ p. a (p .0), λ p. b (p .0)))
 
 -- check's answer, back to what was read
-refused-as : (v : Res (Record Placed)) (k : Refusal) (o : ℕ) → checked-as v ≡ check.Refused k o → v ≡ fault k o
-refused-as (got r p) k o e = clash (cc)
-refused-as (fault f q) k o e = cc
-
 faulty-read : (s : List ℕ) (w : Faulty s) → accept limits s ≡ fault (w .reason) (w .offset)
-unfolding checked
-faulty-read s w = refused-as (accept limits s) (w .reason) (w .offset) (w .refused)
+faulty-read s w = refused-as s (w .reason) (w .offset) (w .refused)
 
 not-both : (v : Res (Record Placed)) (k : Refusal) (o : ℕ) (r : Record Placed) (p : ℕ) → v ≡ fault k o → v ≡ got r p → ⊥
 not-both v k o r p e f = clash (cc)

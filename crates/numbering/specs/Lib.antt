@@ -13,6 +13,7 @@ pub mod Examples
 pub mod Folds
 pub mod Turns
 pub mod Entries
+pub mod Foreseen
 pub mod Parts
 pub mod Printed
 pub mod View

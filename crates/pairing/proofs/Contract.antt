@@ -1,27 +1,35 @@
--- From the contract of rewrite to the demands: what its two equations say of the bytes that it was lent and of those that it leaves.
+-- From the contract of rewrite to the demands: what its two equations say of the bytes that it was lent and of those that it leaves; and
+-- from the contract of figures to its promise.
 use Prim.Native.Nat.{ℕ}
 use mathlib.Core.Path.{_≡_, sym, ap, _∙_, subst}
+use mathlib.Core.Logic.{_↔_}
 use mathlib.Core.List.{List, _++_}
 use native.Mathlib.Omega.{arith}
 use lib.ListN.{length, take, drop, length-take, take-append-drop}
 use lib.Seq.{take-append-seam, drop-append-seam}
 use Rattle.arith.proofs.Clash.{clash}
+use Rattle.record.specs.declared.Checked.the-variants as check
 use Rattle.record.specs.Record.{Bytes, Placed, Record, plain, function, limits, wide}
 use Rattle.record.specs.Reader.{got}
 use Rattle.record.specs.Read.{read}
 use Rattle.record.specs.Typing.{accept}
 use Rattle.record.specs.Write.{bytes}
+use Rattle.record.specs.Answer.{checked}
 use Rattle.record.proofs.Gives.{bytes-take}
 use Rattle.record.proofs.ReadFrom.{read-from, read-ends}
 use Rattle.numbering.specs.declared.Rewritten.{Rewritten}
 use Rattle.numbering.specs.declared.Rewritten.the-variants.{Written, Refused, Room}
+use Rattle.numbering.specs.declared.Figured.{Figured}
+use Rattle.numbering.specs.declared.Figured.the-variants as figured
 use Rattle.numbering.specs.Made.{rewriting}
 use Rattle.numbering.specs.Rewrite.{rewritten-bytes, rewrite, rewrite-leaves}
+use Rattle.numbering.specs.Figures.{figures, figures-leaves}
+use Rattle.numbering.specs.Ahead.{FewPlaces}
 use Rattle.numbering.specs.Ways.{all-saves, Faulty, TooShort, HasRoom, ExactlyOne, first, second, third, Ends}
 use Rattle.numbering.proofs.Ways.{same-value, three-ways}
 use Rattle.pairing.specs.Demand.{RunAlike, SavesBounded}
-use Rattle.pairing.specs.Contract.{Accepted, WrittenAlike, DemandsMet}
-use Rattle.pairing.proofs.Theorems.{few-saves, reads-as-rewriting, bytes-run-alike, program-has-room}
+use Rattle.pairing.specs.Contract.{Accepted, WrittenAlike, DemandsMet, FiguresMet}
+use Rattle.pairing.proofs.Theorems.{few-saves, reads-as-rewriting, bytes-run-alike, program-has-room, figures-are-rewrites, figures-refused-as-checked, refused-for-few-places, places-stay, refusals-write-no-place}
 
 -- only an output with room is written
 wrote : {s out left : List ℕ} {answer : Rewritten} → Ends s out answer left → (n k : ℕ) → answer ≡ Written n k → HasRoom s (length out)
@@ -121,3 +129,18 @@ readers-run-alike s out out′ answer d n k e r q p m f g =
     let x : a .input ≡ r = same-value (accept limits s) (a .input) r (a .accepted .end) p (a .accepted .accepted) f in
     let y : a .output ≡ q = same-value (read wide (take n out′) 0) (a .output) q n m (a .reads) g in
     subst (RunAs r) y (subst (λ z. RunAs z (a .output)) x (a .alike, a .bounded))
+
+-- For every input, places and answer: the two equations of figures' contract give its promise.
+pub contract-meets-promise :
+    (s each each′ : List ℕ) (answer : Figured) → answer ≡ figures s each → each′ ≡ figures-leaves s each → FiguresMet s each each′ answer
+contract-meets-promise s each each′ answer e f =
+    record {
+      answers = e;
+      leaves = f;
+      counted = λ n k a. figures-are-rewrites s each n k (sym e ∙ a);
+      refused = λ k o.
+          subst (λ a. (a ≡ figured.Refused k o) ↔ (checked s ≡ check.Refused k o)) (sym e) (figures-refused-as-checked s each k o);
+      too-few = subst (λ a. (a ≡ figured.TooFew) ↔ FewPlaces s (length each)) (sym e) (refused-for-few-places s each);
+      untouched = λ h. f ∙ refusals-write-no-place s each (λ n k a. h n k (e ∙ a));
+      same-length = ap length f ∙ places-stay s each;
+    }

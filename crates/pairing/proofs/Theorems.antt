@@ -1,18 +1,21 @@
 -- Start here: what is proved of an accepted record and its rewriting, each theorem with its sentence.
--- The statements are in specs/Demand.antt, and in numbering's specs/Ways.antt for demand 1; this file puts together what the other files
--- prove. What rewrite's contract comes to is in Contract.antt.
+-- The statements are in specs/Demand.antt, and in numbering's specs/Ways.antt for demand 1 and specs/Ahead.antt for the figures; this file
+-- puts together what the other files prove. What the contracts of rewrite and figures come to is in Contract.antt.
 use Prim.Native.Nat.{ℕ, suc, _<_, _≤_}
 use mathlib.Core.Path.{_≡_, refl, sym, ap, _∙_, subst}
-use mathlib.Core.Logic.{_≢_, _↔_}
+use mathlib.Core.Logic.{_≢_, _↔_, _⊎_}
 use mathlib.Core.Bool.{true}
 use mathlib.Core.List.{List, [], _∷_, _++_, map, map-append}
 use native.Mathlib.Nat.{add-zero}
 use lib.ListN.{length, getD, length-map}
 use Rattle.record.specs.declared.NameIx.{NameIx}
+use Rattle.record.specs.declared.Refusal.{Refusal}
+use Rattle.record.specs.declared.Checked.the-variants as check
 use Rattle.record.specs.Record.{Bytes, Instr, Placed, Block, Name, Record, Function, plain, function, texts, names-of, type-in, arg, limits, wide}
 use Rattle.record.specs.Reader.{got}
 use Rattle.record.specs.Read.{read}
 use Rattle.record.specs.Write.{bytes}
+use Rattle.record.specs.Answer.{checked}
 use Rattle.record.specs.Good.{RecordOk}
 use Rattle.record.proofs.Accepted.{read-ok}
 use Rattle.record.proofs.ReadBack.{reads-back}
@@ -22,9 +25,12 @@ use Rattle.numbering.specs.Number.{block-lvn, count-saves, blocks-lvn, lvn}
 use Rattle.numbering.specs.State.{start}
 use Rattle.numbering.specs.Made.{made-name, made-names, made, rewriting}
 use Rattle.numbering.specs.declared.Rewritten.{Rewritten}
-use Rattle.numbering.specs.declared.Rewritten.the-variants.{Room}
+use Rattle.numbering.specs.declared.Rewritten.the-variants.{Written, Room}
+use Rattle.numbering.specs.declared.Figured.the-variants.{Counted, Refused, TooFew}
 use Rattle.numbering.specs.Rewrite.{rewritten-bytes, rewrite, rewrite-leaves}
+use Rattle.numbering.specs.Figures.{figures, figures-leaves}
 use Rattle.numbering.specs.Ways.{all-saves, Ends}
+use Rattle.numbering.specs.Ahead.{FewPlaces, Foretold}
 use Rattle.numbering.specs.Program.{most-input, buffer-size}
 use Rattle.numbering.proofs.Wide.{rewriting-passes}
 use Rattle.numbering.proofs.Size.{rewriting-room}
@@ -32,6 +38,7 @@ use Rattle.numbering.proofs.Output.{accepted-bytes, buffer-suffices}
 use Rattle.numbering.proofs.Made.{saves-of, saves-args, names-from, saves-dests, lvn-makes}
 use Rattle.numbering.proofs.Differ.{texts-differ}
 use Rattle.numbering.proofs.Ways.{made-saves, three-ways, ends-alone}
+use Rattle.numbering.proofs.Ahead.{figures-foretell, foretold-alone, written-was-foretold, room-was-foretold, figures-refuse, too-few, figures-keep-length, figures-untouched}
 use Rattle.machine.specs.Machine.{Store, Answer, at-unset, run}
 use Rattle.machine.specs.Reached.{read-no-unset}
 use Rattle.pairing.specs.Demand.{shown, stop, Agree, TypedStore, Starts, RunAlike, SavesBounded, All}
@@ -197,3 +204,39 @@ saves-fields f = from 0 (f .blocks)
     from : (k : ℕ) (bs : List (Block Instr)) → All (λ (b : Block Instr). b .saves ≡ count-saves (names-of f) (b .body)) (blocks-lvn f k bs)
     from k [] = tt
     from k (b ∷ bs) = (refl, from (block-lvn (names-of f) (type-in (f .types)) (start (f .args) k) (b .body) .temps) bs)
+
+-- ---- figures ahead of filing (document 02, Point 1)
+-- "these are the figures that rewrite would give": where they are n bytes and k saves, rewrite writes n bytes with k saves into every output
+-- that holds n, and asks for n in every other; and the places hold, for each block that is then filed, its n, and beyond what they held.
+pub figures-are-rewrites : (s each : List ℕ) (n k : ℕ) → figures s each ≡ Counted n k → Foretold s each n k
+figures-are-rewrites = figures-foretell
+
+-- No other bytes and saves foretell so.
+pub figures-alone : (s each : List ℕ) (n k : ℕ) → Foretold s each n k → figures s each ≡ Counted n k
+figures-alone = foretold-alone
+
+-- Whatever rewrite writes, into any output, was foretold, unless there were too few places.
+pub written-as-foretold :
+    (s each out : List ℕ) (n k : ℕ) → rewrite s out ≡ Written n k → (figures s each ≡ Counted n k) ⊎ (figures s each ≡ TooFew)
+written-as-foretold = written-was-foretold
+
+-- So were the bytes that it asks for.
+pub room-as-foretold :
+    (s each out : List ℕ) (n : ℕ) → rewrite s out ≡ Room n → ((k : ℕ) × (figures s each ≡ Counted n k)) ⊎ (figures s each ≡ TooFew)
+room-as-foretold = room-was-foretold
+
+-- The figures are refused as check refuses, with its reason and offset, however many places there are.
+pub figures-refused-as-checked :
+    (s each : List ℕ) (k : Refusal) (o : ℕ) → (figures s each ≡ Refused k o) ↔ (checked s ≡ check.Refused k o)
+figures-refused-as-checked = figures-refuse
+
+-- 12: exactly where check accepts and there are fewer places than blocks.
+pub refused-for-few-places : (s each : List ℕ) → (figures s each ≡ TooFew) ↔ FewPlaces s (length each)
+refused-for-few-places = too-few
+
+-- The places stay as many as they were; a refusal writes none of them.
+pub places-stay : (s each : List ℕ) → length (figures-leaves s each) ≡ length each
+places-stay = figures-keep-length
+
+pub refusals-write-no-place : (s each : List ℕ) → ((n k : ℕ) → figures s each ≢ Counted n k) → figures-leaves s each ≡ each
+refusals-write-no-place = figures-untouched

@@ -1,18 +1,26 @@
--- What rewrite's answer tells of the bytes that it was lent and of those that it leaves: the three demands, as one statement.
+-- What rewrite's answer tells of the bytes that it was lent and of those that it leaves: the three demands, as one statement. And what
+-- the answer of figures tells of the places.
 use Prim.Native.Nat.{ℕ, _≤_}
 use mathlib.Core.Path.{_≡_}
-use mathlib.Core.Logic.{_≢_}
+use mathlib.Core.Logic.{_≢_, _↔_}
 use mathlib.Core.List.{List}
 use lib.ListN.{length, take, drop}
+use Rattle.record.specs.declared.Refusal.{Refusal}
+use Rattle.record.specs.declared.Checked.the-variants as check
 use Rattle.record.specs.Record.{Bytes, Placed, Record, plain, function, limits, wide}
 use Rattle.record.specs.Reader.{got}
 use Rattle.record.specs.Read.{read}
 use Rattle.record.specs.Typing.{accept}
+use Rattle.record.specs.Answer.{checked}
 use Rattle.numbering.specs.declared.Rewritten.{Rewritten}
 use Rattle.numbering.specs.declared.Rewritten.the-variants.{Written, Room}
+use Rattle.numbering.specs.declared.Figured.{Figured}
+use Rattle.numbering.specs.declared.Figured.the-variants.{Counted, Refused, TooFew}
 use Rattle.numbering.specs.Made.{rewriting}
 use Rattle.numbering.specs.Rewrite.{rewrite, rewrite-leaves}
+use Rattle.numbering.specs.Figures.{figures, figures-leaves}
 use Rattle.numbering.specs.Ways.{all-saves, Ends}
+use Rattle.numbering.specs.Ahead.{FewPlaces, Foretold}
 use Rattle.numbering.specs.Program.{most-input, buffer-size}
 use Rattle.pairing.specs.Demand.{RunAlike, SavesBounded}
 
@@ -49,3 +57,17 @@ pub record DemandsMet (s out out′ : List ℕ) (answer : Rewritten) : Type 0 wh
   pub written : (n k : ℕ) → answer ≡ Written n k → WrittenAlike s out out′ n k
   -- of the program: "Its output buffer is 65,536 bytes, which suffices."
   pub suffices : length s ≤ most-input → buffer-size ≤ length out → (n : ℕ) → answer ≢ Room n
+
+-- Document 02, Point 1, of an input s, the places as they were lent and as they are left, and an answer.
+pub record FiguresMet (s each each′ : List ℕ) (answer : Figured) : Type 0 where
+  pub answers : answer ≡ figures s each
+  pub leaves : each′ ≡ figures-leaves s each
+  -- "these are the figures that rewrite would give"
+  pub counted : (n k : ℕ) → answer ≡ Counted n k → Foretold s each n k
+  -- "after all of check's refusals": each of them comes first, with its offset, however many places there are
+  pub refused : (k : Refusal) (o : ℕ) → (answer ≡ Refused k o) ↔ (checked s ≡ check.Refused k o)
+  -- "12: the slice has fewer places than blocks": exactly there
+  pub too-few : (answer ≡ TooFew) ↔ FewPlaces s (length each)
+  -- "nothing is written"
+  pub untouched : ((n k : ℕ) → answer ≢ Counted n k) → each′ ≡ each
+  pub same-length : length each′ ≡ length each

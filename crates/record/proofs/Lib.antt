@@ -18,3 +18,4 @@ pub mod Rows
 pub mod Inside
 pub mod ReadSize
 pub mod Again
+pub mod Judged

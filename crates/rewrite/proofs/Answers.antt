@@ -8,19 +8,18 @@ use lib.ListN.{length, take, replicate, length-replicate}
 use lib.Seq.{sets}
 use lib.Dec.{ltb}
 use borrow.Author.Tests.{lt-ltb, le-ltb}
-use Rattle.arith.proofs.Clash.{clash}
 use Rattle.record.specs.declared.Refusal.{Refusal}
 use Rattle.record.specs.declared.Checked.the-variants as answer
 use Rattle.record.specs.Record.{Placed, Record, plain, limits}
-use Rattle.record.specs.Reader.{Res, got, fault}
+use Rattle.record.specs.Reader.{got}
 use Rattle.record.specs.Read.{read}
-use Rattle.record.specs.Typing.{accept}
 use Rattle.record.specs.Write.{bytes}
-use Rattle.record.specs.Answer.{checked-as, checked}
+use Rattle.record.specs.Answer.{checked}
 use Rattle.record.specs.Decode.{behind, names-count, record-from}
 use Rattle.record.specs.Again.{record-in, Reads, types-in}
 use Rattle.record.proofs.Typed.{accept-typed}
 use Rattle.record.proofs.Again.{record-again, few-names, record-ok}
+use Rattle.record.proofs.Judged.{accepted-as, refused-as}
 use Rattle.record.proofs.ReadSize.{read-size}
 use Rattle.numbering.specs.declared.Rewritten.the-variants.{Written, Refused, Room}
 use Rattle.numbering.specs.Made.{made}
@@ -33,23 +32,9 @@ use Rattle.read_layout.specs.Layout.{types-from, places-from, NamesAt, layout-o
 use Rattle.read_layout.proofs.Tables.{types-hold, places-hold}
 use Rattle.rewrite.specs.Parts.{rewriting-in}
 
--- ---- an accepted record
-record Got (s : List ℕ) : Type 0 where
-  pub it : Record Placed
-  pub behind : ℕ
-  pub got : accept limits s ≡ got it behind
-
-accepted-got : (s : List ℕ) → checked s ≡ answer.Accepted → Got s
-unfolding checked
-accepted-got s h = go (accept limits s) refl h
-  where
-    go : (v : Res (Record Placed)) → accept limits s ≡ v → checked-as v ≡ answer.Accepted → Got s
-    go (got r p) e h = record { it = r; behind = p; got = e }
-    go (fault k o) e h = clash (cc)
-
 module _ (s : List ℕ) (h : checked s ≡ answer.Accepted) where
-  reads : read limits s 0 ≡ got (accepted-got s h .it) (accepted-got s h .behind)
-  reads = accept-typed limits s _ _ (accepted-got s h .got) .reads
+  reads : read limits s 0 ≡ got (record-from s) (accepted-as s h .behind)
+  reads = accept-typed limits s _ _ (accepted-as s h .got) .reads
 
   pub accepted-few : names-count s ≤ 256
   accepted-few = few-names s _ _ reads
@@ -67,8 +52,8 @@ module _ (s : List ℕ) (h : checked s ≡ answer.Accepted) where
     unfolding layout-of
     accepted-reads near =
         record {
-          it = accepted-got s h .it;
-          behind = accepted-got s h .behind;
+          it = record-from s;
+          behind = accepted-as s h .behind;
           reads = reads;
           names = ap (λ (x : Layout). x .end) e;
           near = omega (arith, near .3, few-in);
@@ -85,37 +70,23 @@ module _ (s : List ℕ) (h : checked s ≡ answer.Accepted) where
       placed-first f = places-hold s (replicate 256 0) table room f
 
   -- what rewrite's definition says of it
-  same : accepted-got s h .it ≡ record-from s
-  same = record-again s _ _ reads
-
   pub accepted-result : (out : List ℕ) → rewrite-result (length out) (got (record-from s) 0) ≡ rewrite s out
   unfolding rewrite rewrite-result
-  accepted-result out =
-      ap (λ (r : Record Placed). rewrite-result (length out) (got r 0)) (sym same) ∙
-      sym (ap (rewrite-result (length out)) (accepted-got s h .got))
+  accepted-result out = sym (ap (rewrite-result (length out)) (accepted-as s h .got))
 
   pub accepted-output : (out : List ℕ) → rewrite-output out (got (record-from s) 0) ≡ rewrite-leaves s out
   unfolding rewrite-leaves rewrite-output
-  accepted-output out =
-      ap (λ (r : Record Placed). rewrite-output out (got r 0)) (sym same) ∙ sym (ap (rewrite-output out) (accepted-got s h .got))
+  accepted-output out = sym (ap (rewrite-output out) (accepted-as s h .got))
 
 -- ---- a refusal of check
 module _ (s : List ℕ) (k : Refusal) (o : ℕ) (h : checked s ≡ answer.Refused k o) (out : List ℕ) where
   pub refused-result : Refused k o ≡ rewrite s out
-  unfolding rewrite rewrite-result checked
-  refused-result = go (accept limits s) h
-    where
-      go : (v : Res (Record Placed)) → checked-as v ≡ answer.Refused k o → Refused k o ≡ rewrite-result (length out) v
-      go (got r p) e = clash (cc)
-      go (fault a b) e = cc
+  unfolding rewrite rewrite-result
+  refused-result = sym (ap (rewrite-result (length out)) (refused-as s k o h))
 
   pub refused-output : out ≡ rewrite-leaves s out
-  unfolding rewrite-leaves rewrite-output checked
-  refused-output = go (accept limits s) h
-    where
-      go : (v : Res (Record Placed)) → checked-as v ≡ answer.Refused k o → out ≡ rewrite-output out v
-      go (got r p) e = clash (cc)
-      go (fault a b) e = refl
+  unfolding rewrite-leaves rewrite-output
+  refused-output = sym (ap (rewrite-output out) (refused-as s k o h))
 
 -- ---- written, or too little room; n: the bytes needed
 module _ (s : List ℕ) (n : ℕ) (size : n ≡ length (bytes (rewriting-in s))) (out : List ℕ) where

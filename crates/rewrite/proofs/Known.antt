@@ -26,8 +26,8 @@ use Rattle.write_names.proofs.Copied.{names-copied, names-short}
 use Rattle.lvn_blocks.specs.declared.Behind.{Behind}
 use Rattle.lvn_blocks.specs.Block.{indexes}
 use Rattle.lvn_blocks.specs.Blocks.{BlocksAsk, BlocksDone}
-use Rattle.lvn_blocks.proofs.Whole.{blocks-written, made-noted, made-many}
-use Rattle.rewrite.specs.Parts.{rewriting-in, front-parts, blocks-bytes, Noted, longest-front}
+use Rattle.lvn_blocks.proofs.Whole.{blocks-written, made-noted, made-many, instructions-noted}
+use Rattle.rewrite.specs.Parts.{rewriting-in, figures-in, front-parts, blocks-bytes, Noted, longest-front}
 use Rattle.rewrite.proofs.Parts.{front-total, front-written}
 
 module _ {s : List ℕ} {end : ℕ} (h : Reads s end) where
@@ -93,7 +93,7 @@ module _ {s : List ℕ} {end : ℕ} (h : Reads s end) where
       }
 
   module _
-      {types names names′ out out′ : List ℕ} {r : Behind} (w args at count : ℕ)
+      {types names names′ each each′ out out′ : List ℕ} {r : Behind} (w args at count : ℕ)
       (t : types ≡ types-in s)
       (e : w ≡ id-bytes (num-at s 4 1))
       (a : args ≡ num-at s 5 1)
@@ -101,14 +101,14 @@ module _ {s : List ℕ} {end : ℕ} (h : Reads s end) where
       (done :
       (bs : List (Block Instr)) →
       BlocksDone w (record { args = args; types = types; blocks = bs }) s (record { p = end + 2; q = at }) r count
-      names names′ out out′)
+      names names′ each each′ out out′)
     where
-      exact : BlocksDone w (function (record-in s)) s (record { p = end + 2; q = at }) r count names names′ out out′
+      exact : BlocksDone w (function (record-in s)) s (record { p = end + 2; q = at }) r count names names′ each each′ out out′
       exact =
           let same : _≡_ {A = Function} (record { args = args; types = types; blocks = record-in s .blocks }) (function (record-in s)) =
           λ i. record { args = (a ∙ sym (args-in s)) i; types = t i; blocks = record-in s .blocks } in
           subst
-          (λ (g : Function). BlocksDone w g s (record { p = end + 2; q = at }) r count names names′ out out′) same
+          (λ (g : Function). BlocksDone w g s (record { p = end + 2; q = at }) r count names names′ each each′ out out′) same
           (done (record-in s .blocks))
 
       pub blocks-put : Wrote out out′ at (r .at .q) (blocks-bytes (rewriting-in s))
@@ -134,6 +134,10 @@ module _ {s : List ℕ} {end : ℕ} (h : Reads s end) where
                 (λ i. take ((many ∙ sym same) i) (whole i)) ∙
                 take-append-seam (indexes (made x)) (drop (length (indexes (made x))) names);
           }
+
+      pub blocks-figured : each′ ≡ put each 0 (figures-in s)
+      unfolding rewriting
+      blocks-figured = instructions-noted (record-in s) (blocks-at w count e f) exact
 
 -- ---- the made names
 again : (xs : List NameIx) → map nm (indexes xs) ≡ xs

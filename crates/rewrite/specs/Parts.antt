@@ -11,6 +11,7 @@ use Rattle.record.specs.Decode.{names-count, record-from}
 use Rattle.record.specs.Again.{record-in, types-in, Reads}
 use Rattle.numbering.specs.Made.{made, rewriting}
 use Rattle.numbering.specs.Rewrite.{rewrite-result, rewrite-output}
+use Rattle.numbering.specs.Figures.{instructions}
 use Rattle.numbering.specs.declared.Rewritten.{Rewritten}
 use Rattle.read_layout.specs.Layout.{NamesAt}
 use Rattle.lvn_blocks.specs.Block.{indexes}
@@ -18,6 +19,10 @@ use Rattle.lvn_blocks.specs.Block.{indexes}
 -- the rewriting of the record that stands in these bytes
 abbrev pub rewriting-in : List ℕ → Record Instr
 rewriting-in s = rewriting (record-in s)
+
+-- how many instructions each of its blocks has
+abbrev pub figures-in : List ℕ → List ℕ
+figures-in s = map instructions (rewriting-in s .blocks)
 
 -- what stands between L and the blocks
 abbrev pub front-parts : Record Instr → List (List ℕ)

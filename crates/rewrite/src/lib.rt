@@ -21,15 +21,17 @@ ghost use Rattle.numbering.specs.Made.{made};
 ghost use Rattle.numbering.specs.Rewrite.{rewrite, rewrite-leaves};
 ghost use Rattle.read_layout.specs.Layout.{NamesAt};
 ghost use Rattle.write_bytes.specs.Put.{put, Wrote};
-ghost use Rattle.rewrite.specs.Parts.{rewriting-in, front-parts, blocks-bytes, Lent, Typed, Noted, Answered, longest-front, longest-blocks, longest-rewriting};
+ghost use Rattle.rewrite.specs.Parts.{rewriting-in, figures-in, front-parts, blocks-bytes, Lent, Typed, Noted, Answered, longest-front, longest-blocks, longest-rewriting};
 
-// The blocks of the rewriting, from a place on; the place behind them, and the count of saves. end: where the input's names end; names: what each K saved.
+// The blocks of the rewriting, from a place on; the place behind them, and the count of saves. end: where the input's names end; names: what
+// each K saved; each: how many instructions each block has.
 pub fn put_blocks(
     s: &[u8],
     types: &[u8],
     heads: &mut [u64],
     nums: &mut [u64],
     names: &mut [u16],
+    each: &mut [u16],
     out: &mut [u8],
     end: usize,
     at: usize,
@@ -37,7 +39,8 @@ pub fn put_blocks(
     requires { ⌜ Lent (now s) (now types) (now heads) (now nums) (now names) end × (at ≤ longest-front) ⌝ }
     ensures { λ r. ⌜
         Wrote (now (out .entry)) (now (out .exit)) at (r .at .q) (blocks-bytes (rewriting-in (now (s .entry)))) ×
-        (Noted (now (s .entry)) (now (names .exit)) (r .count .total) × (r .at .q ≤ at + longest-blocks)) ⌝ }
+        (Noted (now (s .entry)) (now (names .exit)) (r .count .total) × ((r .at .q ≤ at + longest-blocks) ×
+        (now (each .exit) ≡ put (now (each .entry)) 0 (figures-in (now (s .entry)))))) ⌝ }
 {
     let w = read_layout::id_bytes(read_fields::byte_or(s, 4));
     let args = read_fields::byte_or(s, 5) as u16;
@@ -50,7 +53,7 @@ pub fn put_blocks(
         blocks: count,
     };
     let from = Spot { p: end + 2, q: at };
-    lvn_blocks::blocks_lvn(s, types, heads, nums, names, out, layout, from)
+    lvn_blocks::blocks_lvn(s, types, heads, nums, names, each, out, layout, from)
 }
 
 // All that stands before the blocks: L, version, A and N, the names, B; the place behind it. rest: L; k: how many names are made.
@@ -97,7 +100,7 @@ pub struct Size {
     pub saves: u16,
 }
 
-// Both, by the blocks written to nothing; and the names that are made.
+// Both, by the blocks written to nothing; and the names that are made, and the instructions of each block.
 pub fn measure(
     s: &[u8],
     types: &[u8],
@@ -105,16 +108,18 @@ pub fn measure(
     heads: &mut [u64],
     nums: &mut [u64],
     names: &mut [u16],
+    each: &mut [u16],
     end: usize,
 ) -> Size
     requires { ⌜
         Lent (now s) (now types) (now heads) (now nums) (now names) end × NamesAt (now s) (now places) (names-count (now s)) ⌝ }
     ensures { λ r. ⌜
         (r .bytes ≡ length (bytes (rewriting-in (now (s .entry))))) ×
-        (Noted (now (s .entry)) (now (names .exit)) (r .saves) × (r .bytes ≤ longest-rewriting)) ⌝ }
+        (Noted (now (s .entry)) (now (names .exit)) (r .saves) × ((r .bytes ≤ longest-rewriting) ×
+        (now (each .exit) ≡ put (now (each .entry)) 0 (figures-in (now (s .entry)))))) ⌝ }
 {
     let mut none = [0u8; 0];
-    let b = put_blocks(s, types, heads, nums, names, &mut none, end, 0);
+    let b = put_blocks(s, types, heads, nums, names, each, &mut none, end, 0);
     let saves = b.count.total;
     let at = front_size(s, places, names, end, saves);
     Size {
@@ -141,6 +146,7 @@ pub fn put_record(
         ((size .bytes ≡ length (bytes (rewriting-in (now s)))) × (size .bytes ≤ longest-rewriting)))) ⌝ }
     ensures { λ _. ⌜ now (out .exit) ≡ put (now (out .entry)) 0 (bytes (rewriting-in (now (s .entry)))) ⌝ }
 {
+    let mut none = [0u16; 0];
     let at = put_front(
         s,
         places,
@@ -150,7 +156,7 @@ pub fn put_record(
         size.saves,
         (size.bytes - 4) as u32,
     );
-    put_blocks(s, types, heads, nums, names, out, end, at);
+    put_blocks(s, types, heads, nums, names, &mut none, out, end, at);
 }
 
 // The rewriting, where the output has room: the blocks are written behind the input's names and moved behind the made ones, then what
@@ -173,8 +179,9 @@ pub fn put_once(
         ((r .saves ≡ length (made (record-in (now (s .entry))))) ×
         (now (out .exit) ≡ put (now (out .entry)) 0 (bytes (rewriting-in (now (s .entry)))))) ⌝ }
 {
+    let mut none = [0u16; 0];
     let from = end + 2;
-    let b = put_blocks(s, types, heads, nums, names, out, end, from);
+    let b = put_blocks(s, types, heads, nums, names, &mut none, out, end, from);
     let n = b.at.q - from;
     let saves = b.count.total;
     let at = front_size(s, places, names, end, saves);
@@ -201,7 +208,8 @@ pub fn rewrite_measured(
         Lent (now s) (now types) (now heads) (now nums) (now names) end × NamesAt (now s) (now places) (names-count (now s)) ⌝ }
     ensures { λ r. ⌜ Answered (now (s .entry)) (now (out .entry)) r (now (out .exit)) ⌝ }
 {
-    let size = measure(s, types, places, heads, nums, names, end);
+    let mut none = [0u16; 0];
+    let size = measure(s, types, places, heads, nums, names, &mut none, end);
     if out.len() < size.bytes {
         return Rewritten::Room(size.bytes);
     }

@@ -5,23 +5,23 @@ use mathlib.Core.List.{[]}
 use native.Mathlib.Omega.{arith}
 use Rattle.record.specs.Record.{id-bytes}
 use Rattle.record.proofs.Again.{few-original, few-blocks}
-use Rattle.rewrite.proofs.Known.{types-many, blocks-ask, blocks-put, blocks-noted}
+use Rattle.rewrite.proofs.Known.{types-many, blocks-ask, blocks-put, blocks-noted, blocks-figured}
 use Rattle.rewrite.proofs.put_blocks.Statement.{statement}
 use Rattle.rewrite.proofs.put_blocks.Tie as tie
 
-cast-t16 : tie.Need-cast-t16
-cast-t16 c =
+cast-t17 : tie.Need-cast-t17
+cast-t17 c =
     let version = c .before .before .before in
-    let p = version .before .before .before .before .before .before .before .pre .0 in
+    let p = version .before .before .before .before .before .before .before .before .pre .0 in
     omega (arith, types-many (p .reads) (p .types), few-original (p .reads))
 
 blocks-lvn-requires : tie.Need-blocks-lvn-requires
 blocks-lvn-requires c κs =
-    let count = c .before .before .before .before in
+    let count = c .before .before .before .before .before in
     let args = count .before in
     let width = args .before in
     let version = width .before in
-    let pre = version .before .before .before .before .before .before .before .pre in
+    let pre = version .before .before .before .before .before .before .before .before .pre in
     let p = pre .0 in
     let w = width .id-bytes .ensures .0 ∙ ap id-bytes (version .byte-or .ensures .0) in (
       refl,
@@ -30,18 +30,21 @@ blocks-lvn-requires c κs =
 
 returns : tie.Need-returns
 returns c =
-    let call = c .before .before .before .before .before .before .before .before in
-    let count = call .before .before .before .before .before in
+    let call = c .before .before .before .before .before .before .before .before .before .before in
+    let count = call .before .before .before .before .before .before in
     let args = count .before in
     let width = args .before in
     let version = width .before in
-    let p = version .before .before .before .before .before .before .before .pre .0 in
+    let p = version .before .before .before .before .before .before .before .before .pre .0 in
     let w = width .id-bytes .ensures .0 ∙ ap id-bytes (version .byte-or .ensures .0) in
     let done = call .blocks-lvn .ensures in (
       blocks-put (p .reads) _ _ _ _ (p .types) w (args .byte-or2 .ensures .0) (count .be16 .ensures .0) done,
       (
         blocks-noted (p .reads) _ _ _ _ (p .types) w (args .byte-or2 .ensures .0) (count .be16 .ensures .0) done (p .names),
-        omega (arith, done [] .close, count .be16 .ensures .0, few-blocks (p .reads)),
+        (
+          omega (arith, done [] .close, count .be16 .ensures .0, few-blocks (p .reads)),
+          blocks-figured (p .reads) _ _ _ _ (p .types) w (args .byte-or2 .ensures .0) (count .be16 .ensures .0) done,
+        ),
       ),
     )
 
@@ -49,5 +52,5 @@ pub put-blocks-spec : {M : Type 1} → statement M
 put-blocks-spec =
     tie.close
     (tie.spec (λ c κs. search needs) (λ c κs. search needs) (λ c κs. search needs) (λ c. search needs)
-    (λ c κs. search needs) cast-t16 (λ c. search needs) blocks-lvn-requires (λ c. search needs) (λ c. search needs)
-    (λ c. search needs) (λ c. search needs) returns)
+    (λ c κs. search needs) cast-t17 (λ c. search needs) blocks-lvn-requires (λ c. search needs) (λ c. search needs)
+    (λ c. search needs) (λ c. search needs) (λ c. search needs) returns)

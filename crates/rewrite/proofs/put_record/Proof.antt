@@ -14,19 +14,19 @@ sub-put-front c =
 
 put-blocks-requires : tie.Need-put-blocks-requires
 put-blocks-requires c κs =
-    let front = c .before .before .before .before .before .before in
+    let front = c .before .before .before .before .before .before .before in
     let p = front .before .before .before .before .before .before .before .before .before .before .before .pre in
     (p .0, front .put-front .ensures .1 .0)
 
 returns : tie.Need-returns
 returns c =
-    let blocks = c .before .before .before .before .before .before .before .before in
-    let front = blocks .before .before .before .before .before .before .before in
+    let blocks = c .before .before .before .before .before .before .before .before .before in
+    let front = blocks .before .before .before .before .before .before .before .before in
     let p = front .before .before .before .before .before .before .before .before .before .before .before .pre in
     parts-written _ _ _ (front .put-front .ensures .0) (blocks .put-blocks .ensures .0) (p .1 .1 .1 .0) refl
 
 pub put-record-spec : {M : Type 1} → statement M
 put-record-spec =
     tie.close
-    (tie.spec sub-put-front (λ c. search needs) (λ c κs. search needs) put-blocks-requires (λ c. search needs)
+    (tie.spec sub-put-front (λ c. search needs) (λ c κs. search needs) (λ c. search needs) put-blocks-requires (λ c. search needs)
     (λ c. search needs) (λ c. search needs) (λ c. search needs) returns)
