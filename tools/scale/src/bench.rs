@@ -28,15 +28,31 @@ fn now() -> i64 {
     time.seconds * 1_000_000_000 + time.nanoseconds
 }
 
-/// The middle time of a turn, over so many seconds: one round in which the clock reads short changes nothing.
+/// The middle time: one round in which the clock reads short changes nothing.
+fn middle_of(mut all: Vec<i64>) -> f64 {
+    all.sort_unstable();
+    all[all.len() / 2] as f64
+}
+
+/// The middle time of a turn, over so many seconds.
 fn middle(seconds: u64, mut turn: impl FnMut() -> i64) -> f64 {
     let start = Instant::now();
     let mut all = vec![turn()];
     while start.elapsed() < Duration::from_secs(seconds) {
         all.push(turn());
     }
-    all.sort_unstable();
-    all[all.len() / 2] as f64
+    middle_of(all)
+}
+
+/// The same of two that alternate, so that whatever slows the machine for a while slows both.
+fn middles(seconds: u64, mut one: impl FnMut() -> i64, mut other: impl FnMut() -> i64) -> (f64, f64) {
+    let start = Instant::now();
+    let (mut ones, mut others) = (vec![one()], vec![other()]);
+    while start.elapsed() < Duration::from_secs(2 * seconds) {
+        ones.push(one());
+        others.push(other());
+    }
+    (middle_of(ones), middle_of(others))
 }
 
 /// How often a row is repeated between two looks at the clock.
@@ -44,17 +60,25 @@ fn repeats(row: &Row) -> usize {
     (32_000 / row.records.iter().map(Vec::len).sum::<usize>()).max(1)
 }
 
-/// The middle time of a call over all records of a row, for one record.
-fn rounds(row: &Row, seconds: u64, mut call: impl FnMut(usize, &[u8])) -> f64 {
-    let repeats = repeats(row);
-    let turn = || {
+/// How many calls there are between two looks at the clock.
+fn calls(row: &Row) -> f64 {
+    (repeats(row) * row.records.len()) as f64
+}
+
+/// A turn: a call for each record of a row, repeated.
+fn turn<'a>(row: &'a Row, mut call: impl FnMut(usize, &[u8]) + 'a) -> impl FnMut() -> i64 + 'a {
+    move || {
         let start = now();
-        for _ in 0..repeats {
+        for _ in 0..repeats(row) {
             row.records.iter().enumerate().for_each(|(n, r)| call(n, black_box(r)));
         }
         now() - start
-    };
-    middle(seconds, turn) / (repeats * row.records.len()) as f64
+    }
+}
+
+/// The middle time of a call over all records of a row, for one record.
+fn rounds(row: &Row, seconds: u64, call: impl FnMut(usize, &[u8])) -> f64 {
+    middle(seconds, turn(row, call)) / calls(row)
 }
 
 /// The Rust's pass alone: what it takes is made ready before the time starts.
@@ -71,7 +95,7 @@ fn rust_alone(row: &Row, seconds: u64) -> f64 {
         black_box(done);
         time
     };
-    middle(seconds, turn) / (repeats * row.records.len()) as f64
+    middle(seconds, turn) / calls(row)
 }
 
 fn rust_whole(bytes: &[u8]) -> Vec<u8> {
@@ -154,18 +178,26 @@ fn rewriting_time(
     })
 }
 
-/// The time of figures, with as many places as blocks.
-fn figures_time(row: &Row, seconds: u64) -> f64 {
+/// The times of rewrite, with an output that always suffices, and of figures, with as many places as blocks.
+fn rewrite_and_figures(row: &Row, seconds: u64) -> (f64, f64) {
+    let size = |r: &Vec<u8>| Output::Ample.size(r.len(), 0);
+    let mut out = vec![0; row.records.iter().map(size).max().unwrap_or(0)];
     let blocks: Vec<usize> = row.records.iter().map(|r| cut::counts(r).len()).collect();
     let mut each = vec![0; blocks.iter().copied().max().unwrap_or(0)];
-    rounds(row, seconds, |n, record| {
+    let rewrite = turn(row, |n, record| {
+        black_box(lvn::rewrite(record, &mut out[..size(&row.records[n])]).is_ok());
+    });
+    let figures = turn(row, |n, record| {
         black_box(lvn::figures(record, &mut each[..blocks[n]]).is_ok());
-    })
+    });
+    let (rewrite, figures) = middles(seconds, rewrite, figures);
+    (rewrite / calls(row), figures / calls(row))
 }
 
-/// Times of a row that are the same for all outputs, ns for a record.
+/// Times of a row, ns for a record; only that of rewrite, here with an output that always suffices, is another for other outputs.
 struct Times {
     check: f64,
+    rewrite: f64,
     figures: f64,
     rust: f64,
     rust_whole: f64,
@@ -187,7 +219,7 @@ fn head(with_hand_port: bool) {
     println!("|{}", "---|".repeat(cells.len()));
 }
 
-/// Times rewrite with such an output and prints the line; our time for a record.
+/// Times rewrite with such an output, where it is not timed yet, and prints the line.
 fn print_line(
     row: &Row,
     seconds: u64,
@@ -195,9 +227,12 @@ fn print_line(
     output: Output,
     times: &Times,
     hand: Option<&HandPort>,
-) -> f64 {
+) {
     let sizes: Vec<usize> = row.records.iter().zip(needed).map(|(r, n)| output.size(r.len(), *n)).collect();
-    let ours = rewriting_time(row, seconds, &sizes, lvn::rewrite);
+    let ours = match output {
+        Output::Ample => times.rewrite,
+        _ => rewriting_time(row, seconds, &sizes, lvn::rewrite),
+    };
     let records = row.records.len() as f64;
     let instructions = row.instructions as f64 / records;
     let whole = |x: f64| format!("{x:.0}");
@@ -222,15 +257,16 @@ fn print_line(
         cells.extend([whole(check), ratio(check / times.check), whole(rewrite), ratio(rewrite / ours)]);
     }
     line(&cells);
-    ours
 }
 
 fn times(row: &Row, seconds: u64, hand: Option<&HandPort>) -> Times {
+    let (rewrite, figures) = rewrite_and_figures(row, seconds);
     Times {
+        rewrite,
+        figures,
         check: rounds(row, seconds, |_, r| {
             black_box(lvn::check(r).is_ok());
         }),
-        figures: figures_time(row, seconds),
         rust: rust_alone(row, seconds),
         rust_whole: rounds(row, seconds, |_, r| {
             black_box(rust_whole(r));
@@ -258,14 +294,14 @@ pub fn run(seed: u64, seconds: u64) -> bool {
             }
         };
         let times = times(&row, seconds, hand);
-        let ours = print_line(&row, seconds, &needed, Output::Ample, &times, hand);
+        print_line(&row, seconds, &needed, Output::Ample, &times, hand);
         if row.tight {
             print_line(&row, seconds, &needed, Output::Exact, &times, hand);
             print_line(&row, seconds, &needed, Output::Short, &times, hand);
         }
-        figures.push((times.figures / ours, row.name.clone()));
+        figures.push((times.figures / times.rewrite, row.name.clone()));
         if row.name.starts_with("16 blocks") {
-            growth.push((ours / row.instructions as f64, times.rust / row.instructions as f64));
+            growth.push((times.rewrite / row.instructions as f64, times.rust / row.instructions as f64));
         }
     }
     let (first, last) = (growth[0], growth[growth.len() - 1]);
