@@ -37,10 +37,10 @@ int main(void)
         return 2;
     }
 
-    uint8_t none = 0;
+    uint16_t figures[64]; /* a record has no more blocks */
     lvn_rewritten answer;
-    uint8_t refusal = lvn_rewrite(input, length, &none, 0, &answer); /* asks how many bytes are needed */
-    if (refusal != 9) {
+    uint8_t refusal = lvn_figures(input, length, figures, 64, &answer); /* says how many bytes are needed */
+    if (refusal != 0) {
         fprintf(stderr, "rewrite: standard input: refused %u at %zu\n", refusal, answer.count);
         return 1;
     }

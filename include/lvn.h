@@ -14,6 +14,7 @@
  *     8  jmp, br or ret before the last place of its block
  *     9  rewrite: the output is too short
  *    11  name text: the rewriting does not belong to the input
+ *    12  figures: fewer places than blocks
  *
  * Every input is answered: nothing is asked of the bytes. Of the pointers it is asked that each points to as many bytes, or numbers, as
  * its length or type says, that none is null (not even with length 0), and that nothing which a call writes overlaps with anything else
@@ -33,9 +34,9 @@ extern "C" {
  * offset: where the first fault is; 0 if there is none. For 7 it is the offset of the instruction. */
 uint8_t lvn_check(const uint8_t *input, size_t input_length, size_t *offset);
 
-/* What lvn_rewrite leaves.
- * count: 0: the bytes written. 1 to 8: the offset of the first fault. 9: the bytes that the rewriting needs.
- * saves: 0: all saves that were added. 1 to 9: 0. */
+/* What lvn_rewrite and lvn_figures leave.
+ * count: 0: the bytes of the rewriting. 1 to 8: the offset of the first fault. 9: the bytes that the rewriting needs. 12: 0.
+ * saves: 0: all saves that are added. 1 to 9, 12: 0. */
 typedef struct {
     size_t count;
     size_t saves;
@@ -44,6 +45,13 @@ typedef struct {
 /* Writes the rewriting of a record to the start of output: 0, a refusal of lvn_check, or 9.
  * A refusal leaves output as it was, and success leaves the bytes beyond the rewriting as they were. */
 uint8_t lvn_rewrite(const uint8_t *input, size_t input_length, uint8_t *output, size_t output_length, lvn_rewritten *answer);
+
+/* The figures of a rewriting, worked out from the record without an output: 0, a refusal of lvn_check, or 12.
+ * 0: answer has the bytes that the rewriting needs and all its saves. The first figures are those of the blocks, in order: how many
+ * instructions a block's rewriting has, saves and terminator counted; at most 512.
+ * 12: there are fewer figures than blocks, of which a record has at most 64.
+ * A refusal leaves figures as they were, and success leaves those beyond the blocks as they were. */
+uint8_t lvn_figures(const uint8_t *input, size_t input_length, uint16_t *figures, size_t figures_length, lvn_rewritten *answer);
 
 /* What lvn_name_text leaves.
  * offset: of a refusal 1 to 8 of the input; else 0.

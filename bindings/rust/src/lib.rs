@@ -47,6 +47,33 @@ impl fmt::Display for Unwritten {
 
 impl error::Error for Unwritten {}
 
+/// What the rewriting of a record has: bytes, and all saves.
+#[derive(Clone, Copy, Debug, PartialEq, Eq)]
+pub struct Counted {
+    pub bytes: usize,
+    pub saves: usize,
+}
+
+/// Why nothing was counted.
+#[derive(Clone, Copy, Debug, PartialEq, Eq)]
+pub enum Uncounted {
+    /// The record is refused.
+    Refused(Refused),
+    /// The record has more blocks than there are places: refusal 12.
+    TooFew,
+}
+
+impl fmt::Display for Uncounted {
+    fn fmt(&self, f: &mut fmt::Formatter) -> fmt::Result {
+        match self {
+            Uncounted::Refused(refused) => refused.fmt(f),
+            Uncounted::TooFew => write!(f, "fewer places than blocks"),
+        }
+    }
+}
+
+impl error::Error for Uncounted {}
+
 mod raw {
     #[repr(C)]
     #[derive(Default)]
@@ -72,6 +99,14 @@ mod raw {
             input_length: usize,
             output: *mut u8,
             output_length: usize,
+            answer: *mut Rewritten,
+        ) -> u8;
+
+        pub fn lvn_figures(
+            input: *const u8,
+            input_length: usize,
+            figures: *mut u16,
+            figures_length: usize,
             answer: *mut Rewritten,
         ) -> u8;
 
@@ -123,6 +158,37 @@ pub fn rewriting(input: &[u8]) -> Result<(Vec<u8>, usize), Refused> {
             Err(Unwritten::Room(bytes)) => output.resize(bytes, 0),
             Err(Unwritten::Refused(refused)) => return Err(refused),
         }
+    }
+}
+
+/// What `rewrite` would give, without an output: bytes, saves, and at the
+/// start of `each`, for each block, the instructions of its rewriting.
+/// Otherwise `each` stays as it was; the places beyond stay as they were in
+/// any case.
+pub fn figures(input: &[u8], each: &mut [u16]) -> Result<Counted, Uncounted> {
+    let mut answer = raw::Rewritten::default();
+    let (from, to) = (input.as_ptr(), each.as_mut_ptr());
+    // SAFETY: as for rewrite.
+    let number = unsafe { raw::lvn_figures(from, input.len(), to, each.len(), &mut answer) };
+    match number {
+        0 => Ok(Counted { bytes: answer.count, saves: answer.saves }),
+        12 => Err(Uncounted::TooFew),
+        _ => Err(Uncounted::Refused(Refused { number, offset: answer.count })),
+    }
+}
+
+/// The figures of a record: bytes, saves, and for each block the instructions
+/// of its rewriting.
+pub fn figures_of(input: &[u8]) -> Result<(Counted, Vec<u16>), Refused> {
+    // A record has at most 64 blocks and a figure is at most 512, so the first place that still has u16::MAX is beyond the last block.
+    let mut each = vec![u16::MAX; 64];
+    match figures(input, &mut each) {
+        Ok(counted) => {
+            each.truncate(each.iter().position(|n| *n == u16::MAX).unwrap_or(64));
+            Ok((counted, each))
+        }
+        Err(Uncounted::Refused(refused)) => Err(refused),
+        Err(Uncounted::TooFew) => unreachable!("a record has at most 64 blocks"),
     }
 }
 

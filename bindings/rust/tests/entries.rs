@@ -1,6 +1,7 @@
-//! The entries on the records of document 01 and on outputs of each size.
+//! The entries on the records of document 01, on outputs of each size and on each number of places.
 
-use lvn::{check, name_text, rewrite, rewriting, Refused, Unwritten, Written};
+use lvn::{check, figures, figures_of, name_text, rewrite, rewriting};
+use lvn::{Counted, Refused, Uncounted, Unwritten, Written};
 
 fn bytes(hex: &str) -> Vec<u8> {
     let digits: Vec<u8> = hex.bytes().filter(|d| !d.is_ascii_whitespace()).collect();
@@ -80,6 +81,76 @@ fn smallest_inputs() {
     let empty = bytes("00000006 01 00 0000 0000");
     assert_eq!(rewriting(&empty), Ok((empty.clone(), 0)));
     assert_eq!(rewrite(&empty, &mut []), Err(Unwritten::Room(10)));
+}
+
+/// C15 of document 01: a save in each of two blocks.
+fn c15() -> Vec<u8> {
+    bytes(
+        "00000041 01 00 0001 000178 0002
+        0002 0000 00000001 44 01 0000 00000002 00 0000 00 0000000000000001
+        0002 0000 00000003 44 01 0000 00000004 00 0000 00 0000000000000002",
+    )
+}
+
+/// Three blocks: print x; x = 1, then none, then print x.
+fn three_blocks() -> Vec<u8> {
+    bytes(
+        "00000035 01 00 0001 000178 0003
+        0002 0000 00000001 44 01 0000 00000002 00 0000 00 0000000000000001
+        0000 0000
+        0001 0000 00000003 44 01 0000",
+    )
+}
+
+/// Holds figures to these, with no place up to eight more than there are blocks; places beyond and those of 12 are untouched.
+fn figures_are(input: &[u8], counted: Counted, blocks: &[u16]) {
+    for places in 0..blocks.len() + 8 {
+        let mut each = vec![0xA5A5; places + 2];
+        let answer = figures(input, &mut each[1..places + 1]);
+        let mut expected = vec![0xA5A5; places + 2];
+        if places < blocks.len() {
+            assert_eq!(answer, Err(Uncounted::TooFew));
+        } else {
+            assert_eq!(answer, Ok(counted));
+            expected[1..blocks.len() + 1].copy_from_slice(blocks);
+        }
+        assert_eq!(each, expected);
+    }
+    assert_eq!(figures_of(input), Ok((counted, blocks.to_vec())));
+}
+
+#[test]
+fn figures_with_each_number_of_places() {
+    figures_are(&c1().0, Counted { bytes: 64, saves: 1 }, &[3]);
+    figures_are(&c15(), Counted { bytes: 107, saves: 2 }, &[3, 3]);
+    figures_are(&three_blocks(), Counted { bytes: 76, saves: 1 }, &[3, 0, 1]);
+    figures_are(&bytes("00000006 01 00 0000 0000"), Counted { bytes: 10, saves: 0 }, &[]);
+    let mut most = bytes("00000106 01 00 0000 0040"); // 64 blocks without an instruction
+    most.resize(10 + 64 * 4, 0);
+    figures_are(&most, Counted { bytes: 266, saves: 0 }, &[0; 64]);
+    assert_eq!(Uncounted::TooFew.to_string(), "fewer places than blocks");
+}
+
+#[test]
+fn figures_refuse_as_check_before_too_few_places() {
+    let mut unknown = c15();
+    unknown[21] = 15; // the code of the first instruction
+    let mut types = c15();
+    types[8] = 1; // x is a bool: its first int literal does not fit
+    let mut left_over = c15();
+    left_over.push(0);
+    left_over[3] += 1;
+    for (input, number, offset) in [(&unknown, 5, 21), (&types, 7, 25), (&left_over, 1, 69)] {
+        let refused = Refused { number, offset };
+        assert_eq!(check(input), Err(refused));
+        for places in 0..5 {
+            let mut each = vec![0xA5A5; places];
+            assert_eq!(figures(input, &mut each), Err(Uncounted::Refused(refused)));
+            assert!(each.iter().all(|n| *n == 0xA5A5));
+        }
+        assert_eq!(figures_of(input), Err(refused));
+    }
+    assert_eq!(figures_of(&[]), Err(Refused { number: 1, offset: 0 }));
 }
 
 #[test]

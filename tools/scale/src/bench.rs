@@ -1,8 +1,9 @@
-//! Times check and rewrite, the Rust's `lvn`, alone and with decoding and encoding, and the hand port where it is there, on
-//! the same records in one run.
+//! Times check, rewrite and figures, the Rust's `lvn`, alone and with decoding and encoding, and the hand port where it is
+//! there, on the same records in one run.
 
+use crate::cut;
 use crate::handport::{hand_port, HandPort};
-use crate::one::{self, hex, Guarded};
+use crate::one::{self, hex, Lent};
 use crate::rows::{rows, Row};
 use lvn::{Unwritten, Written};
 use oracle::{reader, writer};
@@ -27,15 +28,31 @@ fn now() -> i64 {
     time.seconds * 1_000_000_000 + time.nanoseconds
 }
 
-/// The middle time of a turn, over so many seconds: one round in which the clock reads short changes nothing.
+/// The middle time: one round in which the clock reads short changes nothing.
+fn middle_of(mut all: Vec<i64>) -> f64 {
+    all.sort_unstable();
+    all[all.len() / 2] as f64
+}
+
+/// The middle time of a turn, over so many seconds.
 fn middle(seconds: u64, mut turn: impl FnMut() -> i64) -> f64 {
     let start = Instant::now();
     let mut all = vec![turn()];
     while start.elapsed() < Duration::from_secs(seconds) {
         all.push(turn());
     }
-    all.sort_unstable();
-    all[all.len() / 2] as f64
+    middle_of(all)
+}
+
+/// The same of two that alternate, so that whatever slows the machine for a while slows both.
+fn middles(seconds: u64, mut one: impl FnMut() -> i64, mut other: impl FnMut() -> i64) -> (f64, f64) {
+    let start = Instant::now();
+    let (mut ones, mut others) = (vec![one()], vec![other()]);
+    while start.elapsed() < Duration::from_secs(2 * seconds) {
+        ones.push(one());
+        others.push(other());
+    }
+    (middle_of(ones), middle_of(others))
 }
 
 /// How often a row is repeated between two looks at the clock.
@@ -43,17 +60,25 @@ fn repeats(row: &Row) -> usize {
     (32_000 / row.records.iter().map(Vec::len).sum::<usize>()).max(1)
 }
 
-/// The middle time of a call over all records of a row, for one record.
-fn rounds(row: &Row, seconds: u64, mut call: impl FnMut(usize, &[u8])) -> f64 {
-    let repeats = repeats(row);
-    let turn = || {
+/// How many calls there are between two looks at the clock.
+fn calls(row: &Row) -> f64 {
+    (repeats(row) * row.records.len()) as f64
+}
+
+/// A turn: a call for each record of a row, repeated.
+fn turn<'a>(row: &'a Row, mut call: impl FnMut(usize, &[u8]) + 'a) -> impl FnMut() -> i64 + 'a {
+    move || {
         let start = now();
-        for _ in 0..repeats {
+        for _ in 0..repeats(row) {
             row.records.iter().enumerate().for_each(|(n, r)| call(n, black_box(r)));
         }
         now() - start
-    };
-    middle(seconds, turn) / (repeats * row.records.len()) as f64
+    }
+}
+
+/// The middle time of a call over all records of a row, for one record.
+fn rounds(row: &Row, seconds: u64, call: impl FnMut(usize, &[u8])) -> f64 {
+    middle(seconds, turn(row, call)) / calls(row)
 }
 
 /// The Rust's pass alone: what it takes is made ready before the time starts.
@@ -70,7 +95,7 @@ fn rust_alone(row: &Row, seconds: u64) -> f64 {
         black_box(done);
         time
     };
-    middle(seconds, turn) / (repeats * row.records.len()) as f64
+    middle(seconds, turn) / calls(row)
 }
 
 fn rust_whole(bytes: &[u8]) -> Vec<u8> {
@@ -124,10 +149,10 @@ fn hand_port_agrees(hand: &HandPort, record: &[u8], rewriting: &[u8], saves: usi
 
 /// The bytes that each record of a row needs, if all sides answer and write the same.
 fn needed(row: &Row, hand: Option<&HandPort>) -> Result<Vec<usize>, String> {
-    let mut guarded = Guarded::new();
+    let mut lent = Lent::new();
     let of_one = |record: &Vec<u8>| {
         let differs = |what: &str| format!("{}: {what}\n{}", row.name, hex(record));
-        match one::compare(record, &mut guarded).map_err(|e| differs(&e))? {
+        match one::compare(record, &mut lent).map_err(|e| differs(&e))? {
             one::Same::Rewritten(bytes, saves) => match hand {
                 Some(hand) if !hand_port_agrees(hand, record, &rust_whole(record), saves) => {
                     Err(differs("the hand port differs"))
@@ -153,9 +178,27 @@ fn rewriting_time(
     })
 }
 
-/// Times of a row that are the same for all outputs, ns for a record.
+/// The times of rewrite, with an output that always suffices, and of figures, with as many places as blocks.
+fn rewrite_and_figures(row: &Row, seconds: u64) -> (f64, f64) {
+    let size = |r: &Vec<u8>| Output::Ample.size(r.len(), 0);
+    let mut out = vec![0; row.records.iter().map(size).max().unwrap_or(0)];
+    let blocks: Vec<usize> = row.records.iter().map(|r| cut::counts(r).len()).collect();
+    let mut each = vec![0; blocks.iter().copied().max().unwrap_or(0)];
+    let rewrite = turn(row, |n, record| {
+        black_box(lvn::rewrite(record, &mut out[..size(&row.records[n])]).is_ok());
+    });
+    let figures = turn(row, |n, record| {
+        black_box(lvn::figures(record, &mut each[..blocks[n]]).is_ok());
+    });
+    let (rewrite, figures) = middles(seconds, rewrite, figures);
+    (rewrite / calls(row), figures / calls(row))
+}
+
+/// Times of a row, ns for a record; only that of rewrite, here with an output that always suffices, is another for other outputs.
 struct Times {
     check: f64,
+    rewrite: f64,
+    figures: f64,
     rust: f64,
     rust_whole: f64,
     hand_check: Option<f64>,
@@ -168,7 +211,7 @@ fn line(cells: &[String]) {
 
 fn head(with_hand_port: bool) {
     println!("ns for a record and for an instruction; a ratio is the other's time over ours");
-    let ours = "record, bytes, instructions, check, rewrite, per instr.";
+    let ours = "record, bytes, instructions, check, rewrite, per instr., figures";
     let rust = "Rust, per instr., ratio, Rust bytes to bytes, ratio";
     let hand = if with_hand_port { ", hand port's check, ratio, its rewrite, ratio" } else { "" };
     let cells: Vec<String> = format!("{ours}, {rust}{hand}").split(", ").map(str::to_string).collect();
@@ -176,7 +219,7 @@ fn head(with_hand_port: bool) {
     println!("|{}", "---|".repeat(cells.len()));
 }
 
-/// Times rewrite with such an output and prints the line; our time for a record.
+/// Times rewrite with such an output, where it is not timed yet, and prints the line.
 fn print_line(
     row: &Row,
     seconds: u64,
@@ -184,9 +227,12 @@ fn print_line(
     output: Output,
     times: &Times,
     hand: Option<&HandPort>,
-) -> f64 {
+) {
     let sizes: Vec<usize> = row.records.iter().zip(needed).map(|(r, n)| output.size(r.len(), *n)).collect();
-    let ours = rewriting_time(row, seconds, &sizes, lvn::rewrite);
+    let ours = match output {
+        Output::Ample => times.rewrite,
+        _ => rewriting_time(row, seconds, &sizes, lvn::rewrite),
+    };
     let records = row.records.len() as f64;
     let instructions = row.instructions as f64 / records;
     let whole = |x: f64| format!("{x:.0}");
@@ -199,6 +245,7 @@ fn print_line(
         whole(times.check),
         whole(ours),
         each(ours),
+        whole(times.figures),
         whole(times.rust),
         each(times.rust),
         ratio(times.rust / ours),
@@ -210,11 +257,13 @@ fn print_line(
         cells.extend([whole(check), ratio(check / times.check), whole(rewrite), ratio(rewrite / ours)]);
     }
     line(&cells);
-    ours
 }
 
 fn times(row: &Row, seconds: u64, hand: Option<&HandPort>) -> Times {
+    let (rewrite, figures) = rewrite_and_figures(row, seconds);
     Times {
+        rewrite,
+        figures,
         check: rounds(row, seconds, |_, r| {
             black_box(lvn::check(r).is_ok());
         }),
@@ -235,7 +284,7 @@ pub fn run(seed: u64, seconds: u64) -> bool {
     let hand = hand_port();
     let hand = hand.as_ref();
     head(hand.is_some());
-    let mut growth = vec![];
+    let (mut growth, mut figures) = (vec![], vec![]);
     for row in rows(seed) {
         let needed = match needed(&row, hand) {
             Ok(needed) => needed,
@@ -245,13 +294,14 @@ pub fn run(seed: u64, seconds: u64) -> bool {
             }
         };
         let times = times(&row, seconds, hand);
-        let ours = print_line(&row, seconds, &needed, Output::Ample, &times, hand);
+        print_line(&row, seconds, &needed, Output::Ample, &times, hand);
         if row.tight {
             print_line(&row, seconds, &needed, Output::Exact, &times, hand);
             print_line(&row, seconds, &needed, Output::Short, &times, hand);
         }
+        figures.push((times.figures / times.rewrite, row.name.clone()));
         if row.name.starts_with("16 blocks") {
-            growth.push((ours / row.instructions as f64, times.rust / row.instructions as f64));
+            growth.push((times.rewrite / row.instructions as f64, times.rust / row.instructions as f64));
         }
     }
     let (first, last) = (growth[0], growth[growth.len() - 1]);
@@ -260,5 +310,16 @@ pub fn run(seed: u64, seconds: u64) -> bool {
         last.0 / first.0,
         last.1 / first.1
     );
+    print_figures(&figures);
     true
+}
+
+/// What figures takes beside rewrite with a long output, where most; and the rows in which it takes longer.
+fn print_figures(ratios: &[(f64, String)]) {
+    let longer: Vec<String> = ratios.iter().filter(|r| r.0 > 1.0).map(|r| format!("{} ({:.2})", r.1, r.0)).collect();
+    let (most, name) = ratios.iter().max_by(|a, b| a.0.total_cmp(&b.0)).expect("there are rows");
+    println!("figures takes at most {most:.2} times as long as rewrite ({name})");
+    if !longer.is_empty() {
+        println!("figures takes longer than rewrite: {}", longer.join(", "));
+    }
 }

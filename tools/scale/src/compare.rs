@@ -4,7 +4,7 @@
 use crate::damage::damaged;
 use crate::function::{Encoded, Function, CODES};
 use crate::generate::Generator;
-use crate::one::{self, hex, Guarded, Same};
+use crate::one::{self, hex, Lent, Same};
 use crate::small::Small;
 use std::time::{Duration, Instant};
 
@@ -62,14 +62,14 @@ impl Tally {
 
 struct Compare {
     tally: Tally,
-    out: Guarded,
+    lent: Lent,
     smallest: Option<(Vec<u8>, String)>,
 }
 
 impl Compare {
     /// Compares one record; whether it is accepted and the same.
     fn record(&mut self, bytes: &[u8]) -> bool {
-        match one::compare(bytes, &mut self.out) {
+        match one::compare(bytes, &mut self.lent) {
             Ok(Same::Rewritten(length, saves)) => {
                 self.tally.saves += saves as u64;
                 self.tally.largest.rewriting = self.tally.largest.rewriting.max(length);
@@ -111,7 +111,7 @@ pub fn run(options: &Options) -> bool {
     let start = Instant::now();
     let (mut small, mut generator) = (Small::new(), Generator::new(options.seed));
     let tally = Tally { codes: vec![0; 72], ..Tally::default() };
-    let mut c = Compare { tally, out: Guarded::new(), smallest: None };
+    let mut c = Compare { tally, lent: Lent::new(), smallest: None };
     let mut encoded = Encoded::default();
     let mut said = Duration::ZERO;
     let done = |tally: &Tally| match options.count {
@@ -156,6 +156,9 @@ fn summary(c: &mut Compare, options: &Options, time: Duration) {
     println!("  {} random functions, {} damaged copies that are accepted", t.random, t.still_accepted);
     println!("  {} of these with a division on which the Rust panics: the same up to it, and it stays", t.divisions);
     println!("  outputs one byte short, exact, longer and of eight times the input, between guard bytes; two name texts each");
+    let p = &c.lent.places;
+    println!("figures as in the rewriting: {} with as many places as blocks, {} with more;", p.exact, p.more);
+    println!("  {} refusals 12 with fewer, {} refusals of check; between guard places", p.fewer, p.refused);
     println!("{} saves; instructions of each code, terminators last:", t.saves);
     let counts: Vec<String> =
         CODES.iter().map(|code| format!("{code}: {}", t.codes[usize::from(*code)])).collect();
@@ -168,8 +171,8 @@ fn summary(c: &mut Compare, options: &Options, time: Duration) {
     println!("refusals as by the second reading of document 01: {}", refused.join(", "));
     let (same, differ) = (t.accepted() + t.refused.iter().sum::<u64>(), t.differ);
     if let Some((record, _)) = c.smallest.take() {
-        let least = one::shrink(&record, &mut c.out);
-        let what = one::compare(&least, &mut c.out).err().unwrap_or_default();
+        let least = one::shrink(&record, &mut c.lent);
+        let what = one::compare(&least, &mut c.lent).err().unwrap_or_default();
         println!("smallest that differs:\n{}\n{what}", hex(&least));
     }
     println!("{same} the same, {differ} differ");

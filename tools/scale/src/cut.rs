@@ -1,4 +1,4 @@
-//! Accepted records made smaller: without an instruction, or only as far as one.
+//! Accepted records made smaller: without an instruction, or only as far as one; and the instructions of each block.
 
 use crate::function::{has_callee, has_dest, mend_length, targets};
 
@@ -47,6 +47,18 @@ pub fn places(bytes: &[u8]) -> Vec<Place> {
         }
     }
     found
+}
+
+/// How many instructions each block of a record or of a rewriting has.
+pub fn counts(bytes: &[u8]) -> Vec<u16> {
+    let blocks = names_end(bytes);
+    let mut body = blocks + 2;
+    let mut next = |_| {
+        let n = two(bytes, body);
+        body = (0..n).fold(body + 4, |at, _| end_of(bytes, at));
+        n as u16
+    };
+    (0..two(bytes, blocks)).map(&mut next).collect()
 }
 
 /// The record with one instruction less.

@@ -5,8 +5,10 @@ mod bench;
 mod compare;
 mod cut;
 mod damage;
+mod figures;
 mod function;
 mod generate;
+mod guarded;
 mod handport;
 mod one;
 mod rng;
@@ -74,7 +76,7 @@ fn given() -> Result<bool, Wrong> {
     for (n, line) in text.lines().enumerate() {
         let at_line = |e| Wrong::Input(format!("standard input, line {}, {e}", n + 1));
         let bytes = from_hex(line.trim()).map_err(at_line)?;
-        let answer = match one::compare(&bytes, &mut one::Guarded::new()) {
+        let answer = match one::compare(&bytes, &mut one::Lent::new()) {
             Ok(one::Same::Rewritten(bytes, saves)) => format!("the same, {bytes} bytes, {saves} saves"),
             Ok(one::Same::Division) => "the same up to the division on which the Rust panics".to_string(),
             Ok(one::Same::Refused(number)) => format!("refused {number} by both"),

@@ -1,6 +1,8 @@
 //! All comparisons on one record: the library with the unchanged Rust and with
 //! the second reading of document 01.
 
+use crate::figures::Places;
+use crate::guarded::Guarded;
 use crate::{cut, second};
 use lvn::{Refused, Unwritten, Written};
 use oracle::Answer;
@@ -14,37 +16,16 @@ pub enum Same {
     Refused(u8),
 }
 
-const FILL: u8 = 0xA5;
-const GUARD: usize = 64;
-
-/// An output between guard bytes.
-pub struct Guarded(Vec<u8>);
-
-impl Guarded {
-    pub fn new() -> Self {
-        Guarded(vec![])
-    }
-
-    /// Lends an output of so many bytes; the answer, if no guard byte was touched.
-    fn lend<T>(&mut self, size: usize, call: impl FnOnce(&mut [u8]) -> T) -> Result<T, String> {
-        self.0.clear();
-        self.0.resize(size + 2 * GUARD, FILL);
-        let answer = call(&mut self.0[GUARD..GUARD + size]);
-        let (before, rest) = self.0.split_at(GUARD);
-        if untouched(before) && untouched(&rest[size..]) {
-            Ok(answer)
-        } else {
-            Err(format!("a guard byte beside an output of {size} bytes was written"))
-        }
-    }
-
-    fn output(&self) -> &[u8] {
-        &self.0[GUARD..self.0.len() - GUARD]
-    }
+/// What is lent to rewrite and to figures.
+pub struct Lent {
+    output: Guarded<u8>,
+    pub places: Places,
 }
 
-fn untouched(bytes: &[u8]) -> bool {
-    bytes.iter().all(|b| *b == FILL)
+impl Lent {
+    pub fn new() -> Self {
+        Lent { output: Guarded::new(0xA5), places: Places::new() }
+    }
 }
 
 fn as_fault(answer: Result<(), Refused>) -> Result<(), second::Fault> {
@@ -52,65 +33,84 @@ fn as_fault(answer: Result<(), Refused>) -> Result<(), second::Fault> {
 }
 
 /// Compares all answers on a record. An error says what differs.
-pub fn compare(bytes: &[u8], out: &mut Guarded) -> Result<Same, String> {
+pub fn compare(bytes: &[u8], lent: &mut Lent) -> Result<Same, String> {
     let expected = second::check(bytes);
     let found = as_fault(lvn::check(bytes));
     if found != expected {
         return Err(format!("check: {found:?} here, {expected:?} by the second reading"));
     }
     if let Err((number, offset)) = expected {
-        for size in [0, 200] {
-            let answer = out.lend(size, |o| lvn::rewrite(bytes, o))?;
-            if answer != Err(Unwritten::Refused(Refused { number, offset })) || !untouched(out.output()) {
-                return Err(format!("rewrite: {answer:?}, expected refusal {number} at {offset}"));
-            }
-        }
+        refused(bytes, Refused { number, offset }, lent)?;
         return Ok(Same::Refused(number));
     }
     match oracle::rewrite(bytes) {
         Answer::Rewriting(rewriting) => {
-            let saves = outputs(bytes, &rewriting, out)?;
+            let saves = rewritten(bytes, &rewriting, lent)?;
             names(bytes, &rewriting)?;
             Ok(Same::Rewritten(rewriting.len(), saves))
         }
-        Answer::Panic => division(bytes, out).map(|()| Same::Division),
+        Answer::Panic => division(bytes, lent).map(|()| Same::Division),
         Answer::Bad => Err("the oracle cannot read the record or write its rewriting".to_string()),
     }
 }
 
-/// Outputs one byte short, exact, longer, and of eight times the input; all saves.
-fn outputs(bytes: &[u8], rewriting: &[u8], out: &mut Guarded) -> Result<usize, String> {
+/// A refusal of check, by rewrite and by figures: nothing is written.
+fn refused(bytes: &[u8], refused: Refused, lent: &mut Lent) -> Result<(), String> {
+    let out = &mut lent.output;
+    for size in [0, 200] {
+        let answer = out.lend(size, |o| lvn::rewrite(bytes, o))?;
+        if answer != Err(Unwritten::Refused(refused)) || !out.untouched(out.lent()) {
+            return Err(format!("rewrite: {answer:?}, expected {refused:?}"));
+        }
+    }
+    lent.places.refused(bytes, refused)
+}
+
+/// The rewriting with outputs of each size, and the figures; all saves.
+fn rewritten(bytes: &[u8], rewriting: &[u8], lent: &mut Lent) -> Result<usize, String> {
+    let saves = name_count(rewriting) - name_count(bytes);
+    outputs(bytes, rewriting, saves, &mut lent.output)?;
+    lent.places.accepted(bytes, rewriting, saves, turn(bytes))?;
+    Ok(saves)
+}
+
+/// Outputs one byte short, exact, longer, and of eight times the input.
+fn outputs(bytes: &[u8], rewriting: &[u8], saves: usize, out: &mut Guarded<u8>) -> Result<(), String> {
     let need = rewriting.len();
     let short = out.lend(need - 1, |o| lvn::rewrite(bytes, o))?;
-    if short != Err(Unwritten::Room(need)) || !untouched(out.output()) {
+    if short != Err(Unwritten::Room(need)) || !out.untouched(out.lent()) {
         return Err(format!("an output one byte short: {short:?}, needed {need}"));
     }
-    let saves = name_count(rewriting) - name_count(bytes);
     for more in [0, 1 + need % 61, (8 * bytes.len()).saturating_sub(need)] {
         let answer = out.lend(need + more, |o| lvn::rewrite(bytes, o))?;
         if answer != Ok(Written { bytes: need, saves }) {
             return Err(format!("{answer:?}, by the Rust {need} bytes and {saves} saves"));
         }
-        let (written, beyond) = out.output().split_at(need);
+        let (written, beyond) = out.lent().split_at(need);
         if written != rewriting {
             return Err(format!("written\n{}\nby the Rust\n{}", hex(written), hex(rewriting)));
         }
-        if !untouched(beyond) {
+        if !out.untouched(beyond) {
             return Err("a byte beyond the rewriting was written".to_string());
         }
     }
-    Ok(saves)
+    Ok(())
 }
 
 fn name_count(record: &[u8]) -> usize {
     usize::from(record[6]) * 256 + usize::from(record[7])
 }
 
+/// A number by which a record takes its turn.
+fn turn(bytes: &[u8]) -> usize {
+    bytes.iter().fold(0, |n, b| n * 31 % 1009 + usize::from(*b))
+}
+
 /// Two name texts, by turns around the ends of both lists of names, of the
 /// rewriting, of one cut short and of the input in its place.
 fn names(bytes: &[u8], rewriting: &[u8]) -> Result<(), String> {
     let (few, all) = (name_count(bytes), name_count(rewriting));
-    let turn = bytes.iter().fold(0, |n, b| n * 31 % 1009 + usize::from(*b));
+    let turn = turn(bytes);
     let some = turn % (all + 1);
     let cut = &rewriting[..rewriting.len() - 1 - turn % 9];
     let tries = [
@@ -133,11 +133,11 @@ fn names(bytes: &[u8], rewriting: &[u8]) -> Result<(), String> {
 
 /// Of a record on which the Rust panics: up to the instruction on which it
 /// does, both rewrite alike, and that instruction is a division and stays one.
-fn division(bytes: &[u8], out: &mut Guarded) -> Result<(), String> {
+fn division(bytes: &[u8], lent: &mut Lent) -> Result<(), String> {
     let places = cut::places(bytes);
     let panics = |p: &cut::Place| matches!(oracle::rewrite(&cut::up_to(bytes, *p, true)), Answer::Panic);
     let first = places[places.partition_point(|p| !panics(p))];
-    compare(&cut::up_to(bytes, first, false), out)?;
+    compare(&cut::up_to(bytes, first, false), lent)?;
     let with = cut::up_to(bytes, first, true);
     let (rewriting, _) = lvn::rewriting(&with).map_err(|r| format!("with the division: {r}"))?;
     let end = rewriting.len() - 4 * first.behind;
@@ -145,16 +145,16 @@ fn division(bytes: &[u8], out: &mut Guarded) -> Result<(), String> {
     if read[4] != 4 || written != read {
         return Err(format!("the Rust panics, and {} is written for {}", hex(written), hex(read)));
     }
-    let need = lvn::rewriting(bytes).map_err(|r| r.to_string())?.0;
-    outputs(bytes, &need, out).map(|_| ())
+    let whole = lvn::rewriting(bytes).map_err(|r| r.to_string())?.0;
+    rewritten(bytes, &whole, lent).map(|_| ())
 }
 
 /// A smaller record that still differs.
-pub fn shrink(bytes: &[u8], out: &mut Guarded) -> Vec<u8> {
+pub fn shrink(bytes: &[u8], lent: &mut Lent) -> Vec<u8> {
     let mut least = bytes.to_vec();
     while second::check(&least).is_ok() {
         let smaller = cut::places(&least).into_iter().map(|p| cut::without(&least, p));
-        match smaller.into_iter().find(|s| compare(s, out).is_err()) {
+        match smaller.into_iter().find(|s| compare(s, lent).is_err()) {
             Some(record) => least = record,
             None => break,
         }
