@@ -57,7 +57,8 @@ pub fn figures_typed(
     figures_noting(s, types, places, &mut names, end, each)
 }
 
-// Of an accepted record: the types and places of its names; whether each block has a place; then the rest.
+// Of an accepted record: the types and places of its names; whether each block has a place; then the rest. One without blocks is its own
+// rewriting.
 pub fn figures_accepted(s: &[u8], each: &mut [u16]) -> Figured
     requires { ⌜ checked (now s) ≡ Accepted ⌝ }
     ensures { λ r. ⌜
@@ -69,6 +70,9 @@ pub fn figures_accepted(s: &[u8], each: &mut [u16]) -> Figured
     let head = read_layout::layout_of(s, &mut types, &mut places);
     if each.len() < head.blocks {
         return Figured::TooFew;
+    }
+    if head.blocks == 0 {
+        return Figured::Counted(head.end + 2, 0);
     }
     let count = head.names as usize;
     figures_typed(s, &types[..count], &places, head.end, each)
