@@ -29,12 +29,14 @@ move-up-requires c κs =
 sub-put-front : tie.Need-sub-put-front
 sub-put-front c =
     let front = c .before .before .before .before .before .before in
-    let entry = front .before .before .before .before .before .before .before .before .before .before .before .before .before .before .before .before .before .before .before .before .before .before .before .before .before in
+    let blocks = front .before .before .before .before .before .before .before .before .before .before .before .before in
+    let entry = blocks .before .before .before .before .before .before .before .before .before .before .before .before .before in
     omega (arith, front .front-size .ensures .1 .1, names-on (entry .pre .0 .reads))
 
 put-front-requires : tie.Need-put-front-requires
 put-front-requires c κs =
-    let blocks = c .before .before .before .before .before .before .before .before .before .before .before .before .before .before .before .before .before .before in
+    let front = c .before .before .before .before .before .before in
+    let blocks = front .before .before .before .before .before .before .before .before .before .before .before .before in
     let p = blocks .before .before .before .before .before .before .before .before .before .before .before .before .before .pre in
     (p .0 .reads, (blocks .put-blocks .ensures .1 .0, p .1 .0))
 
