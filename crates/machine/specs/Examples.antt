@@ -1,7 +1,7 @@
 -- Runs of the machine, computed: an input and its rewriting side by side, with what they did and how many steps they took.
 use Prim.Native.Nat.{ℕ, suc}
 use mathlib.Core.Path.{_≡_, refl}
-use mathlib.Core.Bool.{true, false}
+use mathlib.Core.Bool.{Bool, true, false}
 use mathlib.Core.List.{List, [], _∷_, _++_, map}
 use mathlib.Core.Option.{Option, none, some}
 use lib.ListN.{getD}
@@ -9,7 +9,7 @@ use Rattle.arith.specs.Value.{Val, int, bool, pointer}
 use Rattle.arith.specs.Operation.{by-zero}
 use Rattle.record.specs.Record.{nm, Placed, Record, Function, function, plain, wide}
 use Rattle.record.specs.Reader.{Res, got, fault}
-use Rattle.record.specs.Samples.{division, division-rewritten, call, call-rewritten, loop, loop-rewritten, walk}
+use Rattle.record.specs.Samples.{division, division-rewritten, call, call-rewritten, loop, loop-rewritten, walk, comparison, comparison-rewritten}
 use Rattle.arith.specs.Word.{W, minus-one}
 use Rattle.record.specs.Typing.{accept}
 use Rattle.machine.specs.Machine.{Store, Answer, value, go-on, halt, Event, at-end, at-ret, at-halt, at-unset, at-division, Place, before, stopped, Run, run}
@@ -109,8 +109,21 @@ abbrev pub unset-stops : List Case
 unset-stops =
     (call, [], value (int 6) ∷ [], 1, shows (stopped at-unset 0 0) [] [] (value (int 6) ∷ []) (none ∷ []) 1) ∷ []
 
+-- gt a b and ge a b, which the rewriting has as lt b a and le b a: of a less than b, equal, greater, and of -1 and 0
+abbrev pub compares : ℕ → ℕ → Bool → Bool → List Case
+compares a b greater not-less =
+    let vs : List (Option Val) = some (int a) ∷ some (int b) ∷ none ∷ none ∷ [] in
+    let es : List Event = event 5 68 0 (bool not-less ∷ bool not-less ∷ []) ∷ [] in
+    let held : List (Option Val) = some (int a) ∷ some (int b) ∷ some (bool not-less) ∷ some (bool not-less) ∷ [] in
+    let end : List (Option Val) → ℕ → Summary = shows (stopped at-end 1 0) (0 ∷ []) es [] in
+    (comparison, vs, go-on ∷ [], 2, end held 5) ∷ (comparison-rewritten, vs, go-on ∷ [], 2, end (held ++ (some (bool greater) ∷ [])) 6) ∷ []
+
+abbrev pub compare-alike : List Case
+compare-alike =
+    compares 2 5 false false ++ (compares 5 5 false true ++ (compares 5 2 true true ++ compares minus-one 0 false false))
+
 abbrev pub cases : List Case
-cases = stops-in-division ++ (halts ++ (jumps-back ++ (walks ++ unset-stops)))
+cases = stops-in-division ++ (halts ++ (jumps-back ++ (walks ++ (unset-stops ++ compare-alike))))
 
 pub samples-run : map (λ c. runs (c .0) (c .1) (c .2) (c .3)) cases ≡ map (λ c. c .4) cases
 unfolding all-of-machine

@@ -4,7 +4,7 @@ use mathlib.Core.Path.{_≡_, refl}
 use mathlib.Core.Bool.{true}
 use mathlib.Core.List.{List, [], _∷_, _++_, map}
 use lib.ListN.{replicate}
-use Rattle.record.specs.Samples.{division, division-rewritten, call, call-rewritten, loop, loop-rewritten, walk, walk-rewritten}
+use Rattle.record.specs.Samples.{division, division-rewritten, call, call-rewritten, loop, loop-rewritten, walk, walk-rewritten, comparison, comparison-rewritten}
 use Rattle.record.specs.Hex.{hex}
 use Rattle.record.specs.Text.{same-bytes}
 use Rattle.numbering.specs.Program.{output-with}
@@ -59,7 +59,8 @@ pub samples :
     same-bytes (prints call) call-rewritten ∷
     same-bytes (prints loop) loop-rewritten ∷
     same-bytes (prints walk) walk-rewritten ∷
+    same-bytes (prints comparison) comparison-rewritten ∷
     [] ≡
-    true ∷ true ∷ true ∷ true ∷ []
+    true ∷ true ∷ true ∷ true ∷ true ∷ []
 unfolding all-of-numbering
 samples = refl

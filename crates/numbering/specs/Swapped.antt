@@ -3,7 +3,6 @@ use Prim.Native.Nat.{ℕ}
 use mathlib.Core.Path.{_≡_, refl}
 use mathlib.Core.List.{List, [], _∷_, map}
 use Rattle.record.specs.Record.{Instr}
-use Rattle.record.specs.Hex.{hex}
 use Rattle.record.specs.Short.{gives, set}
 use Rattle.numbering.specs.Examples.{written}
 use Rattle.numbering.specs.Turns.{Row, turned}
@@ -95,7 +94,7 @@ moved =
     row
     (p-is 7 0 1 ∷ set 9 4 1 1 ∷ q-is 6 1 0 ∷ [])
     (p-is 6 1 0 ∷ gives 9 6 13 (4 ∷ []) ∷ set 9 4 1 1 ∷ gives 2 5 13 (6 ∷ []) ∷ []) ∷
-    -- p = gt a b; p = lt b a: written p = id p behind its save
+    -- p = gt a b; p = lt b a: p is saved, and then a copy of the save
     row (p-is 7 0 1 ∷ gives 2 4 6 (1 ∷ 0 ∷ []) ∷ []) (p-is 6 1 0 ∷ gives 2 6 13 (4 ∷ []) ∷ gives 2 4 13 (6 ∷ []) ∷ []) ∷
     -- p = gt a b; a = 7; q = lt b a: another a, which is known
     row
@@ -113,11 +112,3 @@ pub swapped :
     map (map (λ (r : Row). r .3)) (pairs ∷ with-known ∷ moved ∷ [])
 unfolding all-of-numbering
 swapped = refl
-
--- ---- from bytes to bytes: p = gt a b; q = lt b a; p = ge a b; q = le b a; print p q
-pub swapped-bytes :
-    written
-    (hex "00000050 01 02 0004 000161 000162 010170 010171 0001 0005 0000 00000001 07 0002 02 0000 0001 00000002 06 0003 02 0001 0000 00000003 09 0002 02 0000 0001 00000004 08 0003 02 0001 0000 00000005 44 02 0002 0003") ≡
-    hex "0000005F 01 02 0005 000161 000162 010170 010171 01075F705F6C766E30 0001 0006 0001 00000001 06 0002 02 0001 0000 00000002 0D 0003 01 0002 00000003 0D 0004 01 0002 00000003 08 0002 02 0001 0000 00000004 0D 0003 01 0002 00000005 44 02 0002 0002"
-unfolding all-of-numbering
-swapped-bytes = refl

@@ -11,7 +11,7 @@ use Rattle.record.specs.Record.{nm}
 use Rattle.machine.specs.Machine.{Store, go-on}
 use Rattle.pairing.specs.Demand.{Starts, RunAlike}
 use Rattle.pairing.specs.Wrong.{seen₁, seen₂}
-use Rattle.pairing.specs.Rare.{copies-unread, copies-early, greatest-argument, rare-argument, false-argument, reads-made, greatest-answer, writes-early, behind-answers, takes-bool, second-block, behind-loop, ordinary}
+use Rattle.pairing.specs.Rare.{copies-unread, copies-early, greatest-argument, rare-argument, false-argument, equal-not-greater, equal-not-less, not-swapped, reads-made, greatest-answer, writes-early, behind-answers, takes-bool, second-block, behind-loop, ordinary}
 use Rattle.pairing.proofs.Unlike.{agree, alike, Unlike, told, first-word, held, where-shown}
 use Rattle.pairing.specs.Opened.{all-of-pairing}
 
@@ -21,6 +21,9 @@ pub record Rare : Type 0 where
   pub argument : Unlike greatest-argument
   pub rare : Unlike rare-argument
   pub is-false : Unlike false-argument
+  pub greater : Unlike equal-not-greater
+  pub greater-equal : Unlike equal-not-less
+  pub swapped : Unlike not-swapped
   pub answer : Unlike greatest-answer
   pub halted : Unlike writes-early
   pub answered : Unlike behind-answers
@@ -37,6 +40,9 @@ rare-refused =
       argument = λ h. told held (alike greatest-argument tt h .values (nm 3) (omega arith)) tt;
       rare = λ h. told held (alike rare-argument tt h .values (nm 2) (omega arith)) tt;
       is-false = λ h. told held (alike false-argument tt h .values (nm 2) (omega arith)) tt;
+      greater = λ h. told held (alike equal-not-greater tt h .values (nm 2) (omega arith)) tt;
+      greater-equal = λ h. told held (alike equal-not-less tt h .values (nm 2) (omega arith)) tt;
+      swapped = λ h. told held (alike not-swapped tt h .values (nm 2) (omega arith)) tt;
       answer = λ h. told held (alike greatest-answer tt h .values (nm 3) (omega arith)) tt;
       halted = λ h. told held (alike writes-early tt h .values (nm 1) (omega arith)) tt;
       answered = λ h. told held (alike behind-answers tt h .values (nm 1) (omega arith)) tt;

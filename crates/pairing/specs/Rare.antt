@@ -54,6 +54,22 @@ false-argument =
     (just 2 (tbool ∷ tbool ∷ tbool ∷ []) (gives 1 2 11 (0 ∷ 1 ∷ []) ∷ []))
     (just 2 (tbool ∷ tbool ∷ tbool ∷ []) (id 1 2 0 ∷ []))
 
+-- gt a b taken to be le b a, and ge a b to be lt b a: unlike where a and b are equal, and nowhere else; gt a b taken to be lt a b
+abbrev compared : ℕ → ℕ → List ℕ → ℕ → Case
+compared c d xs b =
+    from (some (int 5) ∷ some (int b) ∷ none ∷ []) [] 1
+    (just 2 (tint ∷ tint ∷ tbool ∷ []) (gives 1 2 c (0 ∷ 1 ∷ []) ∷ []))
+    (just 2 (tint ∷ tint ∷ tbool ∷ []) (gives 1 2 d xs ∷ []))
+
+abbrev pub equal-not-greater : Case
+equal-not-greater = compared 7 8 (1 ∷ 0 ∷ []) 5
+
+abbrev pub equal-not-less : Case
+equal-not-less = compared 9 6 (1 ∷ 0 ∷ []) 5
+
+abbrev pub not-swapped : Case
+not-swapped = compared 7 6 (0 ∷ 1 ∷ []) 3
+
 -- a function that reads a name beyond its own, which is made: it is not like itself
 abbrev pub reads-made : Function
 reads-made = just 0 [] (print 1 0 ∷ [])
@@ -117,6 +133,11 @@ ordinary =
     instead false-argument (some (bool false) ∷ some (bool false) ∷ none ∷ []) [] 1 ∷
     instead false-argument (some (bool false) ∷ some (bool true) ∷ none ∷ []) [] 1 ∷
     instead false-argument (some (bool true) ∷ some (bool true) ∷ none ∷ []) [] 1 ∷
+    instead equal-not-greater (some (int 5) ∷ some (int 3) ∷ none ∷ []) [] 1 ∷
+    instead equal-not-greater (some (int 3) ∷ some (int 5) ∷ none ∷ []) [] 1 ∷
+    instead equal-not-less (some (int 5) ∷ some (int 3) ∷ none ∷ []) [] 1 ∷
+    instead equal-not-less (some (int 3) ∷ some (int 5) ∷ none ∷ []) [] 1 ∷
+    instead not-swapped (some (int 5) ∷ some (int 5) ∷ none ∷ []) [] 1 ∷
     instead greatest-answer (none ∷ none ∷ none ∷ none ∷ []) (value (int 0) ∷ []) 1 ∷
     instead greatest-answer (none ∷ none ∷ none ∷ none ∷ []) [] 1 ∷
     instead writes-early (some (int 3) ∷ none ∷ []) (go-on ∷ []) 1 ∷
