@@ -7,7 +7,7 @@ use mathlib.Core.Option.{Option, none, some}
 use lib.Dec.{eqb}
 use borrow.Author.Tests.{eqb-true, eqb-false, eq-eqb, ne-eqb}
 use Rattle.arith.specs.declared.Two.{Two}
-use Rattle.arith.specs.declared.Two.the-variants.{Add, Mul, Eq, And, Or, PtrAdd}
+use Rattle.arith.specs.declared.Two.the-variants.{Add, Mul, Eq, Lt, Gt, Le, Ge, And, Or, PtrAdd}
 use Rattle.arith.specs.Value.{Val, int, float, literal, char, bool, pointer}
 use Rattle.arith.specs.Operation.{Result, ok, unset, asInt, asBool, ints, bools, with-one, with-both, shift, apply2}
 use Rattle.arith.proofs.Words.{addW-comm, mulW-comm}
@@ -79,27 +79,31 @@ pointer-set u v P g h =
     let (k, p) = with-one-set (asInt v) (shift u) h in
     subst (P u) (taken v .as-int k p) (shift-set u k (λ x. P x (int k)) (λ t b o. g t b o k) (λ e. h (rw p e)))
 
--- ---- operators that commute
-pub with-both-comm :
-    {A : Type 0} (x y : Option A) (f : A → A → Result) →
-    ((a b : A) → f a b ≡ f b a) →
-    with-both x y f ≡ with-both y x f
+-- ---- operators over exchanged operands
+pub with-both-swap :
+    {A : Type 0} (x y : Option A) (f g : A → A → Result) →
+    ((a b : A) → f a b ≡ g b a) →
+    with-both x y f ≡ with-both y x g
 unfolding with-both
-with-both-comm none none f h = refl
-with-both-comm none (some b) f h = refl
-with-both-comm (some a) none f h = refl
-with-both-comm (some a) (some b) f h = h a b
+with-both-swap none none f g h = refl
+with-both-swap none (some b) f g h = refl
+with-both-swap (some a) none f g h = refl
+with-both-swap (some a) (some b) f g h = h a b
+
+-- o of two operands is p of the two exchanged
+abbrev pub Swaps : Two → Two → Type 0
+Swaps o p = (x y : Val) → apply2 o x y ≡ apply2 p y x
 
 abbrev pub Commutes : Two → Type 0
-Commutes o = (x y : Val) → apply2 o x y ≡ apply2 o y x
+Commutes o = Swaps o o
 
 pub add-commutes : Commutes Add
 unfolding apply2
-add-commutes x y = with-both-comm (asInt x) (asInt y) _ (λ a b. ap (λ n. ok (int n)) (addW-comm a b))
+add-commutes x y = with-both-swap (asInt x) (asInt y) _ _ (λ a b. ap (λ n. ok (int n)) (addW-comm a b))
 
 pub mul-commutes : Commutes Mul
 unfolding apply2
-mul-commutes x y = with-both-comm (asInt x) (asInt y) _ (λ a b. ap (λ n. ok (int n)) (mulW-comm a b))
+mul-commutes x y = with-both-swap (asInt x) (asInt y) _ _ (λ a b. ap (λ n. ok (int n)) (mulW-comm a b))
 
 pub eqb-comm : (a b : ℕ) → eqb a b ≡ eqb b a
 eqb-comm a b = go (eqb a b) refl
@@ -110,12 +114,20 @@ eqb-comm a b = go (eqb a b) refl
 
 pub eq-commutes : Commutes Eq
 unfolding apply2
-eq-commutes x y = with-both-comm (asInt x) (asInt y) _ (λ a b. ap (λ c. ok (bool c)) (eqb-comm a b))
+eq-commutes x y = with-both-swap (asInt x) (asInt y) _ _ (λ a b. ap (λ c. ok (bool c)) (eqb-comm a b))
 
 pub and-commutes : Commutes And
 unfolding apply2
-and-commutes x y = with-both-comm (asBool x) (asBool y) _ (λ a b. ap (λ c. ok (bool c)) (and-comm a b))
+and-commutes x y = with-both-swap (asBool x) (asBool y) _ _ (λ a b. ap (λ c. ok (bool c)) (and-comm a b))
 
 pub or-commutes : Commutes Or
 unfolding apply2
-or-commutes x y = with-both-comm (asBool x) (asBool y) _ (λ a b. ap (λ c. ok (bool c)) (or-comm a b))
+or-commutes x y = with-both-swap (asBool x) (asBool y) _ _ (λ a b. ap (λ c. ok (bool c)) (or-comm a b))
+
+pub less-swaps : Swaps Lt Gt
+unfolding apply2
+less-swaps x y = with-both-swap (asInt x) (asInt y) _ _ (λ a b. refl)
+
+pub less-equal-swaps : Swaps Le Ge
+unfolding apply2
+less-equal-swaps x y = with-both-swap (asInt x) (asInt y) _ _ (λ a b. refl)

@@ -70,13 +70,12 @@ unfolding identity
 no-identity x y a b =
     of-these (λ o. none ≡ identity o x y a b) no-identities (refl, (refl, (refl, (refl, (refl, (refl, tt))))))
 
-abbrev pub not-sorted : List Two
-not-sorted = Sub ∷ Div ∷ Lt ∷ Gt ∷ Le ∷ Ge ∷ PtrAdd ∷ []
+abbrev pub as-they-stand : List Two
+as-they-stand = Sub ∷ Div ∷ Lt ∷ Le ∷ PtrAdd ∷ []
 
-pub as-it-stands : (a b : ValNum) (o : Two) → OneOf (map tag not-sorted) (tag o) → two o a b ≡ ordered o a b
+pub as-it-stands : (a b : ValNum) (o : Two) → OneOf (map tag as-they-stand) (tag o) → two o a b ≡ ordered o a b
 unfolding ordered
-as-it-stands a b =
-    of-these (λ o. two o a b ≡ ordered o a b) not-sorted (refl, (refl, (refl, (refl, (refl, (refl, (refl, tt)))))))
+as-it-stands a b = of-these (λ o. two o a b ≡ ordered o a b) as-they-stand (refl, (refl, (refl, (refl, (refl, tt)))))
 
 -- ---- values
 pub first-there :

@@ -268,7 +268,7 @@ pub fn sort_val_nums(o: Two, a: ValNum, b: ValNum) -> Value
     }
 }
 
-// "otherwise add, mul, and, or, eq put the smaller number first".
+// "otherwise add, mul, and, or, eq put the smaller number first"; gt becomes lt with its operands exchanged, ge le.
 pub fn order(o: Two, a: ValNum, b: ValNum) -> Value
     ensures { λ r. ⌜ expr-of r ≡ some (ordered o a b) ⌝ }
 {
@@ -276,6 +276,8 @@ pub fn order(o: Two, a: ValNum, b: ValNum) -> Value
         Two::Add => sort_val_nums(o, a, b),
         Two::Mul => sort_val_nums(o, a, b),
         Two::Eq => sort_val_nums(o, a, b),
+        Two::Gt => Value::Two(Two::Lt, b, a),
+        Two::Ge => Value::Two(Two::Le, b, a),
         Two::And => sort_val_nums(o, a, b),
         Two::Or => sort_val_nums(o, a, b),
         _ => Value::Two(o, a, b),

@@ -15,3 +15,5 @@ pub mod Output
 pub mod Differ
 pub mod Ways
 pub mod Ahead
+pub mod Greater
+pub mod NoGreater

@@ -159,7 +159,7 @@ made-names-ranged r h (x ∷ xs) k l =
       made-names-ranged r h xs (suc k) (λ j m. l (suc j) (omega arith)),
     )
 
-each-append :
+pub each-append :
     {A : Type 0} (P : A → Type 0) (xs ys : List A) → Each (λ left x. P x) xs → Each (λ left x. P x) ys → Each (λ left x. P x) (xs ++ ys)
 each-append P [] ys h k = k
 each-append P (x ∷ xs) ys h k = (h .0, each-append P xs ys (h .1) k)

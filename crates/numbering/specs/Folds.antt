@@ -79,13 +79,13 @@ pub equals :
 unfolding all-of-numbering
 equals = refl
 
--- -1 and 0, then unknown operands, which keep their order
+-- -1 and 0; one known; unknown operands. lt and le keep their order, gt and ge become these with the operands exchanged
 pub compares :
-    map (λ o. map (of-two o) ((9, 0) ∷ (6, 5) ∷ (5, 5) ∷ [])) (Lt ∷ Gt ∷ Le ∷ Ge ∷ []) ≡
-    (constant (bool true) ∷ stays Lt 6 5 ∷ stays Lt 5 5 ∷ []) ∷
-    (constant (bool false) ∷ stays Gt 6 5 ∷ stays Gt 5 5 ∷ []) ∷
-    (constant (bool true) ∷ stays Le 6 5 ∷ stays Le 5 5 ∷ []) ∷
-    (constant (bool false) ∷ stays Ge 6 5 ∷ stays Ge 5 5 ∷ []) ∷
+    map (λ o. map (of-two o) ((9, 0) ∷ (0, 5) ∷ (5, 0) ∷ (6, 5) ∷ (5, 5) ∷ [])) (Lt ∷ Gt ∷ Le ∷ Ge ∷ []) ≡
+    (constant (bool true) ∷ stays Lt 0 5 ∷ stays Lt 5 0 ∷ stays Lt 6 5 ∷ stays Lt 5 5 ∷ []) ∷
+    (constant (bool false) ∷ stays Lt 5 0 ∷ stays Lt 0 5 ∷ stays Lt 5 6 ∷ stays Lt 5 5 ∷ []) ∷
+    (constant (bool true) ∷ stays Le 0 5 ∷ stays Le 5 0 ∷ stays Le 6 5 ∷ stays Le 5 5 ∷ []) ∷
+    (constant (bool false) ∷ stays Le 5 0 ∷ stays Le 0 5 ∷ stays Le 5 6 ∷ stays Le 5 5 ∷ []) ∷
     []
 unfolding all-of-numbering
 compares = refl

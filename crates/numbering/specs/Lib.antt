@@ -12,6 +12,7 @@ pub mod Opened
 pub mod Examples
 pub mod Folds
 pub mod Turns
+pub mod Swapped
 pub mod Entries
 pub mod Foreseen
 pub mod Parts

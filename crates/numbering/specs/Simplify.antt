@@ -83,10 +83,12 @@ identity And x y a b = absorbs false true x y a b
 identity Or x y a b = absorbs true false x y a b
 identity PtrAdd x y a b = gives (is-int 0 y) (id-of a) none
 
--- ---- "otherwise add, mul, and, or, eq put the smaller number first" (`sort_val_nums`)
+-- ---- the order of operands
+-- "otherwise add, mul, and, or, eq put the smaller number first" (`sort_val_nums`)
 abbrev pub sorted : Two → ValNum → ValNum → Expr ValNum
 sorted o a b = cond (ltb (b .0) (a .0)) (two o b a) (two o a b)
 
+-- "an unfolded gt into lt with its operands exchanged, and ge into le likewise" (document 02, Point 2)
 unfoldable pub ordered : Two → ValNum → ValNum → Expr ValNum
 ordered Add a b = sorted Add a b
 ordered Sub a b = two Sub a b
@@ -94,9 +96,9 @@ ordered Mul a b = sorted Mul a b
 ordered Div a b = two Div a b
 ordered Eq a b = sorted Eq a b
 ordered Lt a b = two Lt a b
-ordered Gt a b = two Gt a b
+ordered Gt a b = two Lt b a
 ordered Le a b = two Le a b
-ordered Ge a b = two Ge a b
+ordered Ge a b = two Le b a
 ordered And a b = sorted And a b
 ordered Or a b = sorted Or a b
 ordered PtrAdd a b = two PtrAdd a b

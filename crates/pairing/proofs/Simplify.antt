@@ -15,7 +15,7 @@ use Rattle.arith.specs.Word.{W, addW, mulW}
 use Rattle.arith.specs.Value.{Val, int, float, literal, char, bool, pointer, is-pointer, inRange}
 use Rattle.arith.specs.Operation.{Result, ok, stops, unset, asInt, asBool, with-one, with-both, shift, apply1, apply2, Expr, constant, one, two, eval}
 use Rattle.arith.proofs.Words.{addW-comm, addW-zero, mulW-comm, mulW-zero, mulW-one, mulW-two}
-use Rattle.arith.proofs.Operation.{with-one-set, with-both-set, ints-set, bools-set, pointer-set, with-both-comm, Commutes, add-commutes, mul-commutes, eq-commutes, and-commutes, or-commutes}
+use Rattle.arith.proofs.Operation.{with-one-set, with-both-set, ints-set, bools-set, pointer-set, with-both-swap, Swaps, Commutes, add-commutes, mul-commutes, eq-commutes, and-commutes, or-commutes, less-swaps, less-equal-swaps}
 use Rattle.numbering.specs.declared.ValNum.{ValNum}
 use Rattle.numbering.specs.State.{vn, known-value, known-expr}
 use Rattle.numbering.specs.Simplify.{folded, fold1, fold2, is-int, is-bool, id-of, gives, absorbs, identity, sorted, ordered, first, simplify1, simplify2, simplify}
@@ -272,12 +272,16 @@ module _ (ρ : ValNum → Option Val) (a b : ValNum) (x y : Option Val) where
   identity-gives PtrAdd u v h = pointer-set u v (Identity ρ a b x y PtrAdd) ptradd-identity h
 
 -- ---- the order of operands
+swapped-alike : (ρ : ValNum → Option Val) (o p : Two) → Swaps p o → (a b : ValNum) → eval ρ (two p b a) ≡ eval ρ (two o a b)
+unfolding eval
+swapped-alike ρ o p swaps a b = with-both-swap (ρ b) (ρ a) (apply2 p) (apply2 o) swaps
+
 sorted-alike : (ρ : ValNum → Option Val) (o : Two) → Commutes o → (a b : ValNum) → eval ρ (sorted o a b) ≡ eval ρ (two o a b)
 unfolding eval
 sorted-alike ρ o comm a b = go (ltb (b .0) (a .0))
   where
     go : (t : Bool) → eval ρ (cond t (two o b a) (two o a b)) ≡ eval ρ (two o a b)
-    go true = with-both-comm (ρ b) (ρ a) (apply2 o) comm
+    go true = swapped-alike ρ o o comm a b
     go false = refl
 
 ordered-alike : (ρ : ValNum → Option Val) (o : Two) (a b : ValNum) → eval ρ (ordered o a b) ≡ eval ρ (two o a b)
@@ -288,9 +292,9 @@ ordered-alike ρ Mul a b = sorted-alike ρ Mul mul-commutes a b
 ordered-alike ρ Div a b = refl
 ordered-alike ρ Eq a b = sorted-alike ρ Eq eq-commutes a b
 ordered-alike ρ Lt a b = refl
-ordered-alike ρ Gt a b = refl
+ordered-alike ρ Gt a b = swapped-alike ρ Gt Lt less-swaps a b
 ordered-alike ρ Le a b = refl
-ordered-alike ρ Ge a b = refl
+ordered-alike ρ Ge a b = swapped-alike ρ Ge Le less-equal-swaps a b
 ordered-alike ρ And a b = sorted-alike ρ And and-commutes a b
 ordered-alike ρ Or a b = sorted-alike ρ Or or-commutes a b
 ordered-alike ρ PtrAdd a b = refl

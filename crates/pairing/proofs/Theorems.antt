@@ -6,23 +6,26 @@ use mathlib.Core.Path.{_≡_, refl, sym, ap, _∙_, subst}
 use mathlib.Core.Logic.{_≢_, _↔_, _⊎_}
 use mathlib.Core.Bool.{true}
 use mathlib.Core.List.{List, [], _∷_, _++_, map, map-append}
+use mathlib.Core.Option.{some}
 use native.Mathlib.Nat.{add-zero}
 use lib.ListN.{length, getD, length-map}
 use Rattle.record.specs.declared.NameIx.{NameIx}
 use Rattle.record.specs.declared.Refusal.{Refusal}
 use Rattle.record.specs.declared.Checked.the-variants as check
-use Rattle.record.specs.Record.{Bytes, Instr, Placed, Block, Name, Record, Function, plain, function, texts, names-of, type-in, arg, limits, wide}
+use Rattle.record.specs.Record.{nm, Bytes, Instr, Placed, Block, Name, Record, Function, plain, function, texts, names-of, type-in, arg, limits, wide}
 use Rattle.record.specs.Reader.{got}
 use Rattle.record.specs.Read.{read}
 use Rattle.record.specs.Write.{bytes}
 use Rattle.record.specs.Answer.{checked}
 use Rattle.record.specs.Good.{RecordOk}
+use Rattle.record.specs.Short.{gives}
 use Rattle.record.proofs.Accepted.{read-ok}
 use Rattle.record.proofs.ReadBack.{reads-back}
 use Rattle.record.proofs.ReadFrom.{accept-from}
 use Rattle.record.proofs.Typed.{accept-typed}
-use Rattle.numbering.specs.Number.{block-lvn, count-saves, blocks-lvn, lvn}
-use Rattle.numbering.specs.State.{start}
+use Rattle.numbering.specs.declared.ValNum.{ValNum}
+use Rattle.numbering.specs.Number.{instr-lvn, block-lvn, count-saves, blocks-lvn, lvn}
+use Rattle.numbering.specs.State.{State, start}
 use Rattle.numbering.specs.Made.{made-name, made-names, made, rewriting}
 use Rattle.numbering.specs.declared.Rewritten.{Rewritten}
 use Rattle.numbering.specs.declared.Rewritten.the-variants.{Written, Room}
@@ -39,6 +42,8 @@ use Rattle.numbering.proofs.Made.{saves-of, saves-args, names-from, saves-dests
 use Rattle.numbering.proofs.Differ.{texts-differ}
 use Rattle.numbering.proofs.Ways.{made-saves, three-ways, ends-alone}
 use Rattle.numbering.proofs.Ahead.{figures-foretell, foretold-alone, written-was-foretold, room-was-foretold, figures-refuse, too-few, figures-keep-length, figures-untouched}
+use Rattle.numbering.proofs.Greater.{greater-is-less, greater-equal-is-less-equal}
+use Rattle.numbering.proofs.NoGreater.{none-greater}
 use Rattle.machine.specs.Machine.{Store, Answer, at-unset, run}
 use Rattle.machine.specs.Reached.{read-no-unset}
 use Rattle.pairing.specs.Demand.{shown, stop, Agree, TypedStore, Starts, RunAlike, SavesBounded, All}
@@ -240,3 +245,22 @@ places-stay = figures-keep-length
 
 pub refusals-write-no-place : (s each : List ℕ) → ((n k : ℕ) → figures s each ≢ Counted n k) → figures-leaves s each ≡ each
 refusals-write-no-place = figures-untouched
+
+-- ---- the greater is the less, swapped (document 02, Point 2)
+-- "simplify turns an unfolded gt into lt with its operands exchanged": where a and b have numbers, the instruction x = gt a b is rewritten
+-- as x = lt b a under the same id would be: the same saves, the same instruction and the same state behind it. So they share a number,
+-- and where one folds so does the other.
+pub greater-as-less :
+    (N : ℕ) (t : NameIx → ℕ) (s : State) (id x a b : ℕ) (v w : ValNum) → s .env (nm a) ≡ some v → s .env (nm b) ≡ some w →
+    instr-lvn N t s (gives id x 7 (a ∷ b ∷ [])) ≡ instr-lvn N t s (gives id x 6 (b ∷ a ∷ []))
+greater-as-less = greater-is-less
+
+-- "and ge into le likewise"
+pub greater-equal-as-less-equal :
+    (N : ℕ) (t : NameIx → ℕ) (s : State) (id x a b : ℕ) (v w : ValNum) → s .env (nm a) ≡ some v → s .env (nm b) ≡ some w →
+    instr-lvn N t s (gives id x 9 (a ∷ b ∷ [])) ≡ instr-lvn N t s (gives id x 8 (b ∷ a ∷ []))
+greater-equal-as-less-equal = greater-equal-is-less-equal
+
+-- No instruction of a rewriting is gt or ge.
+pub no-greater-written : (f : Function) → All (λ (b : Block Instr). All (λ (i : Instr). (i .code ≢ 7) × (i .code ≢ 9)) (b .body)) (lvn f .blocks)
+no-greater-written = none-greater

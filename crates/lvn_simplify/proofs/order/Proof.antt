@@ -1,6 +1,6 @@
 -- `lvn_simplify::order` meets its contract: by the operator.
 use mathlib.Core.Option.{some}
-use mathlib.Core.Path.{ap, _∙_}
+use mathlib.Core.Path.{refl, ap, _∙_}
 use borrow.Author.Needs.{needs}
 use Rattle.numbering.specs.Simplify.{ordered}
 use Rattle.lvn_simplify.proofs.Others.{as-it-stands}
@@ -12,10 +12,10 @@ unfolding ordered
 order-spec =
     tie.close
     (tie.spec (λ c. search needs) (λ c κs. search needs) (λ c. search needs) (λ c κs. search needs) (λ c. search needs)
-    (λ c κs. search needs) (λ c. search needs) (λ c κs. search needs) (λ c. search needs) (λ c κs. search needs)
-    (λ c. c .sort-val-nums .ensures ∙ rw (c .before .enum-told .given .1))
+    (λ c κs. search needs) (λ c. search needs) (λ c. search needs) (λ c. search needs) (λ c κs. search needs) (λ c. search needs)
+    (λ c κs. search needs) (λ c. c .sort-val-nums .ensures ∙ rw (c .before .enum-told .given .1))
     (λ c. c .sort-val-nums2 .ensures ∙ rw (c .before .enum-told2 .given .1))
-    (λ c. c .sort-val-nums3 .ensures ∙ rw (c .before .enum-told3 .given .1))
-    (λ c. c .sort-val-nums4 .ensures ∙ rw (c .before .enum-told4 .given .1))
-    (λ c. c .sort-val-nums5 .ensures ∙ rw (c .before .enum-told5 .given .1))
-    (λ c. let a = c .before .args in ap some (as-it-stands (a .a) (a .b) (a .o) (c .match .keys6))))
+    (λ c. c .sort-val-nums3 .ensures ∙ rw (c .before .enum-told3 .given .1)) (λ c. rw (c .enum-told4 .given .1) refl)
+    (λ c. rw (c .enum-told5 .given .1) refl) (λ c. c .sort-val-nums4 .ensures ∙ rw (c .before .enum-told6 .given .1))
+    (λ c. c .sort-val-nums5 .ensures ∙ rw (c .before .enum-told7 .given .1))
+    (λ c. let a = c .before .args in ap some (as-it-stands (a .a) (a .b) (a .o) (c .match .keys8))))
