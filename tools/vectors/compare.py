@@ -1,9 +1,10 @@
-"""Compares the unchanged Rust with stored answers, or with the model.
+"""Compares the altered Rust with stored answers, or with the model.
 
 compare.py                     the Rust against vectors/*.txt
 compare.py --random N [--seed S]   the Rust against model.py on N random records
 compare.py --exhaustive        the same on all small records of exhaustive.py
-The last line is `N passed, M failed`.
+On a record without gt and ge the unaltered Rust must answer the same. The last
+line is `N passed, M failed`.
 """
 
 import argparse
@@ -14,9 +15,9 @@ from collections import Counter
 from pathlib import Path
 
 from check import check
-from exhaustive import operations, short_blocks
+from exhaustive import comparisons, operations, short_blocks
 from generate import records
-from model import Model, rewrite
+from model import GE, GT, Model, rewrite
 from record import from_bytes, to_bytes, to_text
 
 TOP = Path(__file__).resolve().parents[2]
@@ -33,13 +34,33 @@ def build():
                    cwd=ORACLE, env={**os.environ, "BRIL_SRC": sources.stdout.strip()})
 
 
-def oracle(inputs):
+def oracle(inputs, unaltered=False):
     """The Rust's answers to records in hex: a rewriting in hex or `panic`."""
-    run = subprocess.run([ORACLE / "target/release/oracle"], check=True, text=True,
+    command = [ORACLE / "target/release/oracle"] + ["--unaltered"] * unaltered
+    run = subprocess.run(command, check=True, text=True,
                          input="".join(i + "\n" for i in inputs), stdout=subprocess.PIPE)
     answers = [line.split(" ") for line in run.stdout.splitlines()]
     assert [a[0] for a in answers] == list(inputs)
     return [a[1] for a in answers]
+
+
+def has_greater(record):
+    """Whether a record in hex has gt or ge."""
+    f = from_bytes(bytes.fromhex(record))
+    return any(i.code in (GT, GE) for b in f.blocks for i in b.instrs)
+
+
+def both(inputs):
+    """Pairs of the altered Rust's answer to a record in hex and whether the
+    unaltered one gives the same, None where the record has gt or ge."""
+    without = [n for n, record in enumerate(inputs) if not has_greater(record)]
+    others = dict(zip(without, oracle([inputs[n] for n in without], unaltered=True)))
+    return [(answer, others[n] == answer if n in others else None)
+            for n, answer in enumerate(oracle(inputs))]
+
+
+def say_asked(count):
+    print("%d records without gt and ge: the unaltered Rust was asked for them too" % count)
 
 
 def stored():
@@ -52,12 +73,14 @@ def stored():
     for n, line in enumerate((TOP / "vectors/rewritings.txt").read_text().splitlines(), 1):
         cases.append(["rewritings.txt:%d" % n, *line.split(" ", 1)])
     asked = [c for c in cases if not c[2].startswith("refused")]
-    answers = dict(zip((c[0] for c in asked), oracle([c[1] for c in asked])))
+    answers = dict(zip((c[0] for c in asked), both([c[1] for c in asked])))
+    say_asked(sum(same is not None for _, same in answers.values()))
     for label, record, out in cases:
         by_model = rewrite(bytes.fromhex(record))
         agree = out == (by_model if isinstance(by_model, str) else by_model.hex())
         if label in answers:
-            agree = agree and answers[label] == ("panic" if label == "C7" else out)
+            answer, same = answers[label]
+            agree = agree and answer == ("panic" if label == "C7" else out) and same is not False
         yield label, agree
 
 
@@ -76,18 +99,23 @@ def against_model(items):
     differs. The Rust is to panic exactly where a constant division stays."""
     counts, smallest = Counter(), None
     for part in parts(items):
-        for record, answer in zip(part, oracle([r.hex() for r in part])):
+        for record, (answer, same) in zip(part, both([r.hex() for r in part])):
             model = Model(from_bytes(record))
             expected = to_bytes(model.rewrite()).hex()
-            if check(record) is None and answer == ("panic" if model.stuck else expected):
+            agree = check(record) is None and answer == ("panic" if model.stuck else expected)
+            counts["asked"] += same is not None
+            if agree and same is not False:
                 counts["panic" if model.stuck else "same"] += 1
                 continue
             counts["failed"] += 1
             if smallest is None or len(record) < len(smallest[0]):
-                smallest = record, expected, answer
+                smallest = record, expected, answer, same
+    say_asked(counts["asked"])
     if smallest:
         print(smallest[0].hex(), to_text(from_bytes(smallest[0])), sep="\n")
         print("model", smallest[1], "Rust ", smallest[2], sep="\n")
+        if smallest[3] is False:
+            print("the unaltered Rust gives another answer")
     print("%d rewritings the same, %d with a panic where the division stays"
           % (counts["same"], counts["panic"]))
     return counts["same"] + counts["panic"], counts["failed"]
@@ -103,8 +131,8 @@ def main():
     if a.random is not None:
         passed, failed = against_model(records(a.seed, a.random))
     elif a.exhaustive:
-        passed, failed = map(sum, zip(against_model(operations()),
-                                      against_model(short_blocks())))
+        passed, failed = map(sum, zip(against_model(operations()), against_model(short_blocks()),
+                                      against_model(comparisons())))
     else:
         results = list(stored())
         for label, agree in results:

@@ -6,6 +6,7 @@ from collections import Counter
 
 from model import Model
 from record import EFFECT, VALUE, from_bytes
+from store import meet
 
 TEXTS = {0: "const", **VALUE, **EFFECT, 67: "call (effect)"}
 
@@ -22,6 +23,8 @@ def main():
         more["with a save"] += with_saves > 0
         more["with saves in several blocks"] += with_saves > 1
         more["unchanged"] += out == f
+        more["with gt or ge exchanged"] += any(" exchanged" in what for what in model.seen)
+        more["with gt and lt or ge and le of one number"] += meet(model.seen)
         more["blocks"] += len(f.blocks)
         more["empty blocks"] += sum(not b.instrs for b in f.blocks)
         for i in (i for b in f.blocks for i in b.instrs):

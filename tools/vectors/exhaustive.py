@@ -54,3 +54,18 @@ def short_blocks():
     for size in (1, 2, 3):
         for block in product(instrs, repeat=size):
             yield to_bytes(Function(1, names, [Block(list(block))]))
+
+
+def comparisons():
+    """Every block of one, two and three instructions over int arguments a and b
+    and bools p and q: lt, gt, le and ge into p and q with every pair of a and
+    b, const 0 and 1 into a, const 1 into b, and id of each into the other."""
+    names = [(INT, "a"), (INT, "b"), (BOOL, "p"), (BOOL, "q")]
+    ints = (0, 1)
+    instrs = [Instr(7, c, d, args=[a, b]) for c in range(6, 10) for d in (2, 3)
+              for a in ints for b in ints]
+    instrs += [Instr(7, 0, d, INT, v) for d, v in ((0, 0), (0, 1), (1, 1))]
+    instrs += [Instr(7, 13, d, args=[1 - d]) for d in ints]
+    for size in (1, 2, 3):
+        for block in product(instrs, repeat=size):
+            yield to_bytes(Function(2, names, [Block(list(block))]))

@@ -22,9 +22,11 @@ IDS = [0, 1, 2, 3, 5, 9, 255, 256, 65536, 0xFFFFFFFF]
 # Types a record's names are drawn from, and the codes it prefers.
 INT_CODES = [0, 0, 0, 0, *range(1, 10), 1, 1, 3, 3, 3, 4, 13, 68]
 BOOL_CODES = [0, 0, 0, 5, 6, 10, 11, 11, 12, 12, 13, 68]
+COMPARISONS = [0, 1, 6, 6, 7, 7, 8, 8, 9, 9, 13, 13, 68]
 PROFILES = [
     (5, [INT, INT, BOOL, INT, INT], INT_CODES),
     (3, [BOOL, BOOL, INT, BOOL, INT], BOOL_CODES),
+    (2, [INT, BOOL, INT, BOOL, BOOL], COMPARISONS),
     (2, [FLOAT, BOOL, FLOAT, CHAR, INT, CHAR], [0, 0, *range(20, 37), 13, 68]),
     (3, [0x10, INT, 0x10, INT, 0x20, 0x20], [0, 0, 0, 13, 14, 14, 14, 37, 38, 38, 70, 71]),
     (1, [INT, 0xF3, 0xE3, 0xF3, 0xE3, INT], [0, 0, 13, 14, 14, 37, 38, 38, 70, 71, 20]),
@@ -32,6 +34,8 @@ PROFILES = [
     (2, [INT, FLOAT, BOOL, FLOAT, INT], [0, 0, 0, 0, 1, 13, 20, 67, 68, 69]),
     (3, [INT, BOOL, INT, FLOAT, CHAR, 0x10], sorted(COUNTS)),
 ]
+
+EXCHANGED = {6: 7, 7: 6, 8: 9, 9: 8}  # the comparison with its arguments swapped
 
 
 class Generator:
@@ -112,12 +116,15 @@ class Generator:
 
     def again(self, block):
         """An earlier instruction of the block, perhaps with its arguments
-        swapped or for another dest of the same type."""
+        swapped, a comparison then perhaps by the code that says the same, or
+        for another dest of the same type."""
         old = self.rng.choice(block)
         i = Instr(self.rng.randrange(64), old.code, old.dest, old.kind, old.literal,
                   list(old.args), old.callee)
         if i.code in (*range(1, 10), 11, 12) and self.rng.random() < 0.5:
             i.args.reverse()
+            if i.code in EXCHANGED and self.rng.random() < 0.5:
+                i.code = EXCHANGED[i.code]
         if i.dest is not None and self.rng.random() < 0.7:
             i.dest = self.of_type(self.f.names[i.dest][0])
         return i

@@ -1,7 +1,7 @@
 """Document 01's numbering as a program: check, then the rewriting.
 
-Follows document 01's steps and shares no code with the Rust. Value numbers
-are ints; a value is a tuple with a tag first.
+Follows the steps of document 01 and Point 2 of document 02, and shares no code
+with the Rust. Value numbers are ints; a value is a tuple with a tag first.
 """
 
 import sys
@@ -13,6 +13,7 @@ from record import (BOOL, FLOAT, INT, VALUE, Block, Function, Instr,
 
 ADD, SUB, MUL, DIV, EQ, LT, GT, LE, GE, NOT, AND, OR, ID, PTRADD = range(1, 15)
 COMMUTATIVE = (ADD, MUL, AND, OR, EQ)
+LESS = {GT: LT, GE: LE}  # what they become with exchanged operands
 LEAST = -(1 << 63)
 
 
@@ -62,6 +63,7 @@ class Model:
         self.number = {n: n for n in range(nargs)}  # of a name
         self.home = {n: n for n in range(nargs)}  # of a number
         self.values, self.known = {}, {}
+        self.first = {}  # of a number, the code that made it and the saves until then
         self.next, self.news = nargs, 0
         self.out = Block()
         for i in block.instrs:
@@ -88,6 +90,7 @@ class Model:
             return
         value = self.simplify(self.form(i, operands))
         written = self.write(replaced, value)
+        saves = self.out.saves
         if (written.code, written.args) == (ID, [i.dest]):
             self.seen["x = id x"] += 1
         else:
@@ -95,6 +98,7 @@ class Model:
         number = value[1] if value[0] == ID else self.values.get(value)
         if number is None:
             number = self.values[value] = self.fresh(i.dest)
+            self.first[number] = i.code, self.out.saves
             if value[0] in ("int", "bool"):
                 self.known[number] = value
         elif number in self.known:
@@ -102,9 +106,17 @@ class Model:
             written = self.write(replaced, self.known[number])
         else:
             self.seen["known number, id"] += 1
+            self.found(i.code, number, saves)
             written = self.write(replaced, (ID, number))
         self.number[i.dest] = number
         self.out.instrs.append(written)
+
+    def found(self, code, number, saves):
+        """Counts a comparison that shares its number with an earlier one."""
+        if LT <= code <= GE:
+            first, until = self.first[number]
+            between = ", saves between" * (saves > until)
+            self.seen["%s found as %s%s" % (VALUE[code], VALUE[first], between)] += 1
 
     def save(self, i):
         number = self.number.get(i.dest)
@@ -182,6 +194,9 @@ class Model:
                     return what, simple
         if op in COMMUTATIVE and operands[1] < operands[0]:
             return text + " sorted", (op, operands[1], operands[0])
+        if op in LESS:
+            how = ", one known" * any(known) or ", with itself" * (operands[0] == operands[1])
+            return text + " exchanged" + how, (LESS[op], operands[1], operands[0])
         return text + " stays", (op, *operands)
 
     @staticmethod

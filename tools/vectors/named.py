@@ -120,7 +120,7 @@ def pairs():
         if len(answer) == 1:
             yield bytes.fromhex(record), bytes.fromhex(answer[0])
     lines = (VECTORS / "rewritings.txt").read_text().splitlines()
-    for line in lines[:297:17] + lines[297:]:
+    for line in lines[:-3:17] + lines[-3:]:
         yield tuple(bytes.fromhex(word) for word in line.split())
 
 

@@ -1,11 +1,13 @@
 """Chooses the records of vectors/rewritings.txt and writes them with the
-Rust's rewritings: 297 random ones, then the three at the limits.
+altered Rust's rewritings: 100 on which the unaltered Rust writes otherwise, 297
+more random ones, then the three at the limits.
 
 Usage: store.py > vectors/rewritings.txt
 
 Of each thing worth showing FEW candidates are taken, the rarest first, and
-then the first others. Long ones and ones on which the Rust panics are left
-out.
+then the first others; for the 100 FEW_EXCHANGED, and then the first others in
+which an exchanged gt or ge shares its number with an lt or le. Long ones and
+ones on which the Rust panics are left out.
 """
 
 import itertools
@@ -16,15 +18,21 @@ from generate import limits, records
 from model import Model
 from record import BOOL, FLOAT, INT, from_bytes
 
-SEED, CANDIDATES, COUNT, FEW, LONGEST = 1, 20000, 297, 6, 180
+SEED, CANDIDATES, LONGEST = 1, 20000, 180
+EXCHANGED, FEW_EXCHANGED, COUNT, FEW = 100, 3, 297, 6
+
+
+def of_exchange(seen):
+    """What the model has seen as to gt and ge exchanged, and to the numbers of comparisons."""
+    return {what for what in seen if " exchanged" in what or " found as " in what}
 
 
 def shown(record):
-    """What a record is an example of."""
+    """What a record is an example of, but for what the first 100 show."""
     f = from_bytes(record)
     model = Model(f)
     out = model.rewrite()
-    found = set(model.seen)
+    found = set(model.seen) - of_exchange(model.seen)
     found.add("A %d" % f.nargs)
     found.update("type %x" % t for t, _ in f.names)
     found.add("%d blocks with saves" % sum(b.saves > 0 for b in out.blocks))
@@ -47,23 +55,52 @@ def shown(record):
     return found
 
 
-def choose():
-    """Pairs of record and rewriting in hex."""
-    candidates = [r for r in records(SEED, CANDIDATES) if len(r) <= LONGEST]
-    pairs = [p for p in zip(candidates, oracle([c.hex() for c in candidates]))
-             if p[1] != "panic"]
-    found = [shown(record) for record, _ in pairs]
+def exchanges(record):
+    """What a record is an example of as to gt and ge."""
+    model = Model(from_bytes(record))
+    model.rewrite()
+    return of_exchange(model.seen)
+
+
+def meet(seen):
+    """Whether gt and lt, or ge and le, share a number."""
+    shared = [what.split(",")[0].split(" found as ") for what in seen if " found as " in what]
+    return any(a != b for a, b in shared)
+
+
+def shares(found):
+    """The same, and no gt or ge is of a number with itself."""
+    return meet(found) and not any("with itself" in what for what in found)
+
+
+def take(found, count, few, others):
+    """The places of count records: few with each thing found, then the first others."""
     total = Counter(what for f in found for what in f)
     counts, taken = Counter(), set()
     for what in sorted(total, key=lambda w: (total[w], w)):
         for n, f in enumerate(found):
-            if counts[what] < FEW and what in f and n not in taken:
+            if counts[what] < few and what in f and n not in taken:
                 counts.update(f)
                 taken.add(n)
-    others = [n for n in range(len(pairs)) if n not in taken]
-    taken = sorted([*taken, *others[:COUNT - len(taken)]])
-    assert len(taken) == COUNT
-    return [(pairs[n][0].hex(), pairs[n][1]) for n in taken]
+    more = [n for n in others if n not in taken]
+    taken.update(more[:count - len(taken)])
+    assert len(taken) == count
+    return sorted(taken)
+
+
+def choose():
+    """Pairs of record and rewriting in hex."""
+    candidates = [r for r in records(SEED, CANDIDATES) if len(r) <= LONGEST]
+    asked = [c.hex() for c in candidates]
+    answers, unaltered = oracle(asked), oracle(asked, unaltered=True)
+    whole = [n for n, answer in enumerate(answers) if answer != "panic"]
+    differ = [n for n in whole if answers[n] != unaltered[n]]
+    found = [exchanges(candidates[n]) for n in differ]
+    sharing = [k for k, f in enumerate(found) if shares(f)]
+    first = [differ[k] for k in take(found, EXCHANGED, FEW_EXCHANGED, sharing)]
+    rest = [n for n in whole if n not in first]
+    more = take([shown(candidates[n]) for n in rest], COUNT, FEW, range(len(rest)))
+    return [(asked[n], answers[n]) for n in first + [rest[k] for k in more]]
 
 
 def at_limits():

@@ -1,12 +1,12 @@
-//! Times check, rewrite and figures, the Rust's `lvn`, alone and with decoding and encoding, and the hand port where it is
-//! there, on the same records in one run.
+//! Times check, rewrite and figures, the altered Rust's `lvn`, alone and with decoding and encoding, and the hand port where
+//! it is there, on the same records in one run.
 
 use crate::cut;
 use crate::handport::{hand_port, HandPort};
 use crate::one::{self, hex, Lent};
 use crate::rows::{rows, Row};
 use lvn::{Unwritten, Written};
-use oracle::{reader, writer};
+use oracle::{reader, writer, Rust};
 use std::hint::black_box;
 use std::time::{Duration, Instant};
 
@@ -107,7 +107,7 @@ fn rust_alone(row: &Row, seconds: u64) -> f64 {
         let mut work: Vec<_> = (0..repeats).flat_map(|_| ready.iter().cloned().zip(&decoded)).collect();
         let mut done = Vec::with_capacity(work.len());
         let start = now();
-        done.extend(work.drain(..).map(|(graph, record)| oracle::lvn(graph, record)));
+        done.extend(work.drain(..).map(|(graph, record)| oracle::lvn(Rust::Altered, graph, record)));
         let time = now() - start;
         black_box(done);
         time
@@ -115,9 +115,9 @@ fn rust_alone(row: &Row, seconds: u64) -> f64 {
     middle(seconds, turn) / calls(row)
 }
 
-fn rust_whole(bytes: &[u8]) -> Vec<u8> {
+fn rust_whole(rust: Rust, bytes: &[u8]) -> Vec<u8> {
     let mut record = reader::read(bytes).unwrap();
-    let graph = oracle::lvn(oracle::graph(&mut record), &record);
+    let graph = oracle::lvn(rust, oracle::graph(&mut record), &record);
     oracle::put_back(graph, &mut record);
     writer::write(&record).unwrap()
 }
@@ -151,35 +151,51 @@ impl Output {
     }
 }
 
-/// Whether the hand port answers and writes as the Rust does, whose rewriting this is.
-fn hand_port_agrees(hand: &HandPort, record: &[u8], rewriting: &[u8], saves: usize) -> bool {
-    let needed = rewriting.len();
+/// The bytes that each record of a row needs: here, and by the unaltered Rust, to which the hand port is held.
+struct Needed {
+    here: Vec<usize>,
+    unaltered: Vec<usize>,
+}
+
+impl Needed {
+    /// The sizes of such outputs for the library, or for the hand port.
+    fn sizes(&self, row: &Row, output: Output, hand: bool) -> Vec<usize> {
+        let needed = if hand { &self.unaltered } else { &self.here };
+        row.records.iter().zip(needed).map(|(r, n)| output.size(r.len(), *n)).collect()
+    }
+}
+
+/// Whether the hand port answers and writes as the unaltered Rust does, whose rewriting this is.
+fn hand_port_agrees(hand: &HandPort, record: &[u8], rewriting: &[u8]) -> bool {
+    let bytes = rewriting.len();
+    let saves = one::name_count(rewriting) - one::name_count(record);
     [Output::Ample, Output::Exact, Output::Short].into_iter().all(|output| {
-        let mut out = vec![0xA5; output.size(record.len(), needed)];
+        let mut out = vec![0xA5; output.size(record.len(), bytes)];
         let answer = (hand.rewrite)(record, &mut out);
         match output {
-            Output::Short => answer == Err(Unwritten::Room(needed)) && out.iter().all(|b| *b == 0xA5),
-            _ => answer == Ok(Written { bytes: needed, saves }) && out[..needed] == *rewriting,
+            Output::Short => answer == Err(Unwritten::Room(bytes)) && out.iter().all(|b| *b == 0xA5),
+            _ => answer == Ok(Written { bytes, saves }) && out[..bytes] == *rewriting,
         }
     }) && (hand.check)(record).is_ok()
 }
 
-/// The bytes that each record of a row needs, if all sides answer and write the same.
-fn needed(row: &Row, hand: Option<&HandPort>) -> Result<Vec<usize>, String> {
+/// The bytes that each record of a row needs, if the library writes as the altered Rust and the hand port as the unaltered.
+fn needed(row: &Row, hand: Option<&HandPort>) -> Result<Needed, String> {
     let mut lent = Lent::new();
-    let of_one = |record: &Vec<u8>| {
+    let mut found = Needed { here: vec![], unaltered: vec![] };
+    for record in &row.records {
         let differs = |what: &str| format!("{}: {what}\n{}", row.name, hex(record));
-        match one::compare(record, &mut lent).map_err(|e| differs(&e))? {
-            one::Same::Rewritten(bytes, saves) => match hand {
-                Some(hand) if !hand_port_agrees(hand, record, &rust_whole(record), saves) => {
-                    Err(differs("the hand port differs"))
-                }
-                _ => Ok(bytes),
-            },
-            _ => Err(differs("not rewritten by the Rust")),
+        let one::Same::Rewritten(bytes, _) = one::compare(record, &mut lent).map_err(|e| differs(&e))? else {
+            return Err(differs("not rewritten by the Rust"));
+        };
+        let unaltered = rust_whole(Rust::Unaltered, record);
+        if hand.is_some_and(|hand| !hand_port_agrees(hand, record, &unaltered)) {
+            return Err(differs("the hand port differs"));
         }
-    };
-    row.records.iter().map(of_one).collect()
+        found.here.push(bytes);
+        found.unaltered.push(unaltered.len());
+    }
+    Ok(found)
 }
 
 /// The time of rewrite, the library's or the hand port's, with such outputs.
@@ -240,15 +256,14 @@ fn head(with_hand_port: bool) {
 fn print_line(
     row: &Row,
     seconds: u64,
-    needed: &[usize],
+    needed: &Needed,
     output: Output,
     times: &Times,
     hand: Option<&HandPort>,
 ) {
-    let sizes: Vec<usize> = row.records.iter().zip(needed).map(|(r, n)| output.size(r.len(), *n)).collect();
     let ours = match output {
         Output::Ample => times.rewrite,
-        _ => rewriting_time(row, seconds, &sizes, lvn::rewrite),
+        _ => rewriting_time(row, seconds, &needed.sizes(row, output, false), lvn::rewrite),
     };
     let records = row.records.len() as f64;
     let instructions = row.instructions as f64 / records;
@@ -270,7 +285,7 @@ fn print_line(
         ratio(times.rust_whole / ours),
     ];
     if let (Some(hand), Some(check)) = (hand, times.hand_check) {
-        let rewrite = rewriting_time(row, seconds, &sizes, hand.rewrite);
+        let rewrite = rewriting_time(row, seconds, &needed.sizes(row, output, true), hand.rewrite);
         cells.extend([whole(check), ratio(check / times.check), whole(rewrite), ratio(rewrite / ours)]);
     }
     line(&cells);
@@ -286,7 +301,7 @@ fn times(row: &Row, seconds: u64, hand: Option<&HandPort>) -> Times {
         }),
         rust: rust_alone(row, seconds),
         rust_whole: rounds(row, seconds, |_, r| {
-            black_box(rust_whole(r));
+            black_box(rust_whole(Rust::Altered, r));
         }),
         hand_check: hand.map(|hand| {
             rounds(row, seconds, |_, r| {
@@ -296,7 +311,7 @@ fn times(row: &Row, seconds: u64, hand: Option<&HandPort>) -> Times {
     }
 }
 
-/// Times all rows; whether all sides write the same.
+/// Times all rows; whether all sides write what they are to.
 pub fn run(seed: u64, seconds: u64) -> bool {
     let hand = hand_port();
     let hand = hand.as_ref();

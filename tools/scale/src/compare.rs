@@ -5,7 +5,7 @@ use crate::damage::damaged;
 use crate::function::{Encoded, Function, CODES};
 use crate::generate::Generator;
 use crate::one::{self, hex, Lent, Same};
-use crate::small::Small;
+use crate::small;
 use std::time::{Duration, Instant};
 
 pub struct Options {
@@ -28,6 +28,8 @@ struct Largest {
 
 #[derive(Default)]
 struct Tally {
+    comparisons: u64,
+    all_comparisons: bool,
     small: u64,
     all_small: bool,
     random: u64,
@@ -43,7 +45,7 @@ struct Tally {
 
 impl Tally {
     fn accepted(&self) -> u64 {
-        self.small + self.random + self.still_accepted
+        self.comparisons + self.small + self.random + self.still_accepted
     }
 
     fn sizes(&mut self, f: &Function, record: usize) {
@@ -109,7 +111,8 @@ impl Compare {
 /// Compares until the count or the time is reached; whether nothing differs.
 pub fn run(options: &Options) -> bool {
     let start = Instant::now();
-    let (mut small, mut generator) = (Small::new(), Generator::new(options.seed));
+    let (mut comparisons, mut small) = (small::comparisons(), small::of_two_names());
+    let mut generator = Generator::new(options.seed);
     let tally = Tally { codes: vec![0; 72], ..Tally::default() };
     let mut c = Compare { tally, lent: Lent::new(), smallest: None };
     let mut encoded = Encoded::default();
@@ -120,9 +123,13 @@ pub fn run(options: &Options) -> bool {
     };
     while !done(&c.tally) {
         for _ in 0..16 {
-            match small.next() {
-                Some(f) => c.tally.small += u64::from(c.function(&f, &mut encoded)),
-                None => c.tally.all_small = true,
+            if let Some(f) = comparisons.next() {
+                c.tally.comparisons += u64::from(c.function(&f, &mut encoded));
+            } else if let Some(f) = small.next() {
+                c.tally.all_comparisons = true;
+                c.tally.small += u64::from(c.function(&f, &mut encoded));
+            } else {
+                c.tally.all_small = true;
             }
         }
         let f = generator.function();
@@ -149,14 +156,17 @@ fn progress(t: &Tally, time: Duration) {
 
 fn summary(c: &mut Compare, options: &Options, time: Duration) {
     let (t, l) = (&c.tally, &c.tally.largest);
-    let all = if t.all_small { "all of them" } else { "not all of them" };
+    let all = |are: bool| if are { "all of them" } else { "not all of them" };
     println!("seed {}, {:.1} s", options.seed, time.as_secs_f64());
-    println!("{} functions rewritten to the bytes of the Rust:", t.accepted());
-    println!("  {} blocks of up to three instructions over two names ({all})", t.small);
+    println!("{} functions rewritten to the bytes of the altered Rust:", t.accepted());
+    println!("  {} blocks of up to three comparisons, consts, ids and prints ({})", t.comparisons, all(t.all_comparisons));
+    println!("  {} blocks of up to three instructions over two names ({})", t.small, all(t.all_small));
     println!("  {} random functions, {} damaged copies that are accepted", t.random, t.still_accepted);
     println!("  {} of these with a division on which the Rust panics: the same up to it, and it stays", t.divisions);
     println!("  outputs one byte short, exact, longer and of eight times the input, between guard bytes; two name texts each");
-    let p = &c.lent.places;
+    let (p, u) = (&c.lent.places, &c.lent.unaltered);
+    println!("the unaltered Rust: {} functions without gt and ge, on which it answers the same;", u.without);
+    println!("  {} with gt or ge, {} of which it writes otherwise, {} with more comparisons", u.with, u.otherwise, u.shared);
     println!("figures as in the rewriting: {} with as many places as blocks, {} with more;", p.exact, p.more);
     println!("  {} refusals 12 with fewer, {} refusals of check; between guard places", p.fewer, p.refused);
     println!("{} saves; instructions of each code, terminators last:", t.saves);

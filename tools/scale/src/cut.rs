@@ -49,6 +49,11 @@ pub fn places(bytes: &[u8]) -> Vec<Place> {
     found
 }
 
+/// The codes of a record or of a rewriting.
+pub fn codes(bytes: &[u8]) -> impl Iterator<Item = u8> + '_ {
+    places(bytes).into_iter().map(|p| bytes[p.start + 4])
+}
+
 /// How many instructions each block of a record or of a rewriting has.
 pub fn counts(bytes: &[u8]) -> Vec<u16> {
     let blocks = names_end(bytes);

@@ -72,6 +72,13 @@ const PROFILES: [Profile; 8] = [
     Profile { weight: 3, types: &[INT, BOOL, INT, FLOAT, CHAR, 0x10], codes: &EVERY },
 ];
 
+/// Comparisons of few ints, so that gt and lt, and ge and le, meet: one random function in ten, and none of a given size.
+const COMPARISONS: Profile = Profile {
+    weight: 0,
+    types: &[INT, BOOL, INT, BOOL, BOOL],
+    codes: &[0, 1, 6, 6, 7, 7, 8, 8, 9, 9, 13, 68],
+};
+
 /// Every code that may stand before the last place.
 const EVERY: [u8; 39] = [
     0, 1, 2, 3, 4, 5, 6, 7, 8, 9, 10, 11, 12, 13, 14, 20, 21, 22, 23, 24, 25, 26, 27, 28, 29, 30,
@@ -313,7 +320,7 @@ impl Generator {
         block
     }
 
-    /// A function of a size, over the names and codes of one profile.
+    /// A function of a size, over the names and codes of one of the profiles.
     pub fn of_size(&mut self, size: &Size) -> Function {
         let total = PROFILES.iter().map(|p| p.weight).sum();
         let mut left = self.rng.below(total);
@@ -325,6 +332,10 @@ impl Generator {
             }
             left -= p.weight;
         }
+        self.of_profile(size, profile)
+    }
+
+    fn of_profile(&mut self, size: &Size, profile: &Profile) -> Function {
         self.f = Function { args: size.args as u8, ..Function::default() };
         self.names(size.names, profile.types);
         self.f.blocks = vec![vec![]; size.blocks];
@@ -337,6 +348,9 @@ impl Generator {
 
     pub fn function(&mut self) -> Function {
         let size = Size::random(&mut self.rng);
+        if self.rng.chance(100) {
+            return self.of_profile(&size, &COMPARISONS);
+        }
         self.of_size(&size)
     }
 }

@@ -1,11 +1,12 @@
-//! All comparisons on one record: the library with the unchanged Rust and with
-//! the second reading of document 01.
+//! All comparisons on one record: the library with the altered Rust and with
+//! the second reading of document 01, and the altered Rust with the unaltered.
 
 use crate::figures::Places;
 use crate::guarded::Guarded;
+use crate::unaltered::Unaltered;
 use crate::{cut, second};
 use lvn::{Refused, Unwritten, Written};
-use oracle::Answer;
+use oracle::{Answer, Rust};
 
 /// What both sides agree on.
 pub enum Same {
@@ -16,15 +17,16 @@ pub enum Same {
     Refused(u8),
 }
 
-/// What is lent to rewrite and to figures.
+/// What is lent to rewrite and to figures; and what is counted.
 pub struct Lent {
     output: Guarded<u8>,
     pub places: Places,
+    pub unaltered: Unaltered,
 }
 
 impl Lent {
     pub fn new() -> Self {
-        Lent { output: Guarded::new(0xA5), places: Places::new() }
+        Lent { output: Guarded::new(0xA5), places: Places::new(), unaltered: Unaltered::default() }
     }
 }
 
@@ -43,7 +45,14 @@ pub fn compare(bytes: &[u8], lent: &mut Lent) -> Result<Same, String> {
         refused(bytes, Refused { number, offset }, lent)?;
         return Ok(Same::Refused(number));
     }
-    match oracle::rewrite(bytes) {
+    let answer = oracle::rewrite(Rust::Altered, bytes);
+    lent.unaltered.ask(bytes, &answer)?;
+    accepted(bytes, answer, lent)
+}
+
+/// An accepted record, by the altered Rust's answer.
+fn accepted(bytes: &[u8], answer: Answer, lent: &mut Lent) -> Result<Same, String> {
+    match answer {
         Answer::Rewriting(rewriting) => {
             let saves = rewritten(bytes, &rewriting, lent)?;
             names(bytes, &rewriting)?;
@@ -97,7 +106,7 @@ fn outputs(bytes: &[u8], rewriting: &[u8], saves: usize, out: &mut Guarded<u8>) 
     Ok(())
 }
 
-fn name_count(record: &[u8]) -> usize {
+pub fn name_count(record: &[u8]) -> usize {
     usize::from(record[6]) * 256 + usize::from(record[7])
 }
 
@@ -135,9 +144,9 @@ fn names(bytes: &[u8], rewriting: &[u8]) -> Result<(), String> {
 /// does, both rewrite alike, and that instruction is a division and stays one.
 fn division(bytes: &[u8], lent: &mut Lent) -> Result<(), String> {
     let places = cut::places(bytes);
-    let panics = |p: &cut::Place| matches!(oracle::rewrite(&cut::up_to(bytes, *p, true)), Answer::Panic);
-    let first = places[places.partition_point(|p| !panics(p))];
-    compare(&cut::up_to(bytes, first, false), lent)?;
+    let rust = |p: cut::Place, with| oracle::rewrite(Rust::Altered, &cut::up_to(bytes, p, with));
+    let first = places[places.partition_point(|p| rust(*p, true) != Answer::Panic)];
+    accepted(&cut::up_to(bytes, first, false), rust(first, false), lent)?;
     let with = cut::up_to(bytes, first, true);
     let (rewriting, _) = lvn::rewriting(&with).map_err(|r| format!("with the division: {r}"))?;
     let end = rewriting.len() - 4 * first.behind;

@@ -3,7 +3,7 @@
 use crate::function::{encode, Function, Instr, INT};
 use crate::generate::{Generator, Size};
 use crate::rng::Rng;
-use oracle::Answer;
+use oracle::{Answer, Rust};
 
 pub struct Row {
     pub name: String,
@@ -75,7 +75,7 @@ fn many_small(seed: u64) -> Vec<Function> {
     let small = Size { names: 6, args: 2, blocks: 2, body: 8, full: false };
     (0..2000)
         .map(|_| generator.of_size(&small))
-        .filter(|f| matches!(oracle::rewrite(&encode(f)), Answer::Rewriting(_)))
+        .filter(|f| matches!(oracle::rewrite(Rust::Altered, &encode(f)), Answer::Rewriting(_)))
         .collect()
 }
 

@@ -1,5 +1,5 @@
-//! Every function of one block of up to three instructions over two names, for
-//! pairs of types, numbers of arguments and small literals.
+//! Every function of one block of up to three instructions: over two names, for
+//! pairs of types, numbers of arguments and small literals; and of comparisons.
 
 use crate::function::{Function, Instr, BOOL, CHAR, CODES, FLOAT, INT, POINTER};
 use crate::second;
@@ -38,9 +38,8 @@ fn arguments() -> Vec<Vec<u16>> {
     lists
 }
 
-fn of_two_names(types: [u8; 2], args: u8, block: Vec<Instr>) -> Function {
-    let names = vec![(types[0], b"x".to_vec()), (types[1], b"y".to_vec())];
-    Function { args, names, blocks: vec![block] }
+fn two_names(types: [u8; 2]) -> Vec<(u8, Vec<u8>)> {
+    vec![(types[0], b"x".to_vec()), (types[1], b"y".to_vec())]
 }
 
 /// Every instruction over two names of these types that may stand alone in a block.
@@ -62,28 +61,29 @@ fn instructions(types: [u8; 2]) -> Vec<Instr> {
         }
     }
     let accepted = |i: &Instr| {
-        let record = crate::function::encode(&of_two_names(types, 0, vec![i.clone()]));
-        second::check(&record).is_ok()
+        let function = Function { args: 0, names: two_names(types), blocks: vec![vec![i.clone()]] };
+        second::check(&crate::function::encode(&function)).is_ok()
     };
     all.retain(accepted);
     all
 }
 
-/// Goes through all of them.
-pub struct Small {
-    pair: usize,
-    args: u8,
+/// Every function of one block of up to three of the choices, over these names, with none to so many arguments.
+pub struct Blocks {
+    names: Vec<(u8, Vec<u8>)>,
     choices: Vec<Instr>,
+    most_args: u8,
+    args: u8,
     /// The instructions of the next block, by their place among the choices.
     next: Vec<usize>,
 }
 
-impl Small {
-    pub fn new() -> Self {
-        Small { pair: 0, args: 0, choices: instructions(PAIRS[0]), next: vec![] }
+impl Blocks {
+    fn new(names: Vec<(u8, Vec<u8>)>, choices: Vec<Instr>, most_args: u8) -> Self {
+        Blocks { names, choices, most_args, args: 0, next: vec![] }
     }
 
-    /// The next list of places, or none behind the last.
+    /// The next list of places; behind the last there is one argument more.
     fn advance(&mut self) {
         for place in self.next.iter_mut().rev() {
             *place += 1;
@@ -97,28 +97,42 @@ impl Small {
             self.next.clear();
             self.args += 1;
         }
-        if self.args > 2 {
-            self.args = 0;
-            self.pair += 1;
-            self.choices = PAIRS.get(self.pair).map_or(vec![], |pair| instructions(*pair));
-        }
     }
 }
 
-impl Iterator for Small {
+impl Iterator for Blocks {
     type Item = Function;
 
     fn next(&mut self) -> Option<Function> {
-        loop {
-            let types = *PAIRS.get(self.pair)?;
-            let places = self.next.clone();
+        while self.args <= self.most_args {
             let args = self.args;
-            let block: Vec<Instr> = places.iter().map(|p| self.choices[*p].clone()).collect();
+            let block: Vec<Instr> = self.next.iter().map(|p| self.choices[*p].clone()).collect();
             self.advance();
             let early = block.iter().rev().skip(1).any(|i| matches!(i.code, 64..=66));
             if !early {
-                return Some(of_two_names(types, args, block));
+                return Some(Function { args, names: self.names.clone(), blocks: vec![block] });
             }
         }
+        None
     }
+}
+
+/// All of them over two names, pair of types by pair of types.
+pub fn of_two_names() -> impl Iterator<Item = Function> {
+    PAIRS.into_iter().flat_map(|types| Blocks::new(two_names(types), instructions(types), 2))
+}
+
+/// Those over the ints a and b and the bool p: lt, gt, le and ge into p, with every pair of a and b; constants into a and
+/// b, and each by id into the other; p printed.
+pub fn comparisons() -> Blocks {
+    let names = vec![(INT, b"a".to_vec()), (INT, b"b".to_vec()), (BOOL, b"p".to_vec())];
+    let instr = |code, dest, args: &[u16]| Instr { id: 7, code, dest, args: args.to_vec(), ..Instr::default() };
+    let mut choices = vec![instr(13, 0, &[1]), instr(13, 1, &[0]), instr(68, 0, &[2])];
+    for code in 6..=9 {
+        choices.extend([[0, 0], [0, 1], [1, 0], [1, 1]].map(|pair| instr(code, 2, &pair)));
+    }
+    for dest in [0, 1] {
+        choices.extend([0, 1, -1].map(|i: i64| Instr { literal: i as u64, ..instr(0, dest, &[]) }));
+    }
+    Blocks::new(names, choices, 3)
 }

@@ -1,4 +1,4 @@
-//! Rewrites function records by the unchanged `lvn`.
+//! Rewrites function records by the Rust's `lvn`, altered as document 02's Point 2 says, or unaltered.
 
 pub mod ops;
 pub mod reader;
@@ -19,9 +19,21 @@ pub fn graph(record: &mut Record) -> Cfg {
     cfg
 }
 
+/// Which Rust: the yardstick for all functions, or that for those without gt and ge.
+#[derive(Clone, Copy)]
+pub enum Rust {
+    /// With gt and ge exchanged for lt and le where they do not fold.
+    Altered,
+    /// As its commit has it.
+    Unaltered,
+}
+
 /// The Rust's pass on the blocks of a record.
-pub fn lvn(cfg: Cfg, record: &Record) -> Cfg {
-    source::lvn(cfg, &source::CLIArgs, &record.function)
+pub fn lvn(rust: Rust, cfg: Cfg, record: &Record) -> Cfg {
+    match rust {
+        Rust::Altered => altered::lvn(cfg, &altered::CLIArgs, &record.function),
+        Rust::Unaltered => source::lvn(cfg, &source::CLIArgs, &record.function),
+    }
 }
 
 /// The blocks of a graph put back into their record.
@@ -34,6 +46,7 @@ pub fn put_back(cfg: Cfg, record: &mut Record) {
 }
 
 /// What the Rust makes of a record.
+#[derive(PartialEq)]
 pub enum Answer {
     Rewriting(Vec<u8>),
     /// The Rust panicked.
@@ -43,12 +56,12 @@ pub enum Answer {
 }
 
 /// Decodes a record, calls `lvn` and encodes the result.
-pub fn rewrite(bytes: &[u8]) -> Answer {
+pub fn rewrite(rust: Rust, bytes: &[u8]) -> Answer {
     let Some(mut record) = reader::read(bytes) else {
         return Answer::Bad;
     };
     let done = panic::catch_unwind(move || {
-        let cfg = lvn(graph(&mut record), &record);
+        let cfg = lvn(rust, graph(&mut record), &record);
         put_back(cfg, &mut record);
         record
     });
