@@ -5,26 +5,26 @@ use mathlib.Core.Path.{_≡_, refl, subst}
 use mathlib.Core.Logic.{_≢_}
 use mathlib.Core.Bool.{Bool, true, false, cond}
 use mathlib.Core.List.{List, [], _∷_}
-use mathlib.Core.Option.{Option, none, some, Option·getD}
+use mathlib.Core.Option.{Option, none, some}
 use lib.Dec.{ltb, eqb}
 use borrow.Author.Tests.{eqb-false}
-use Rattle.arith.specs.declared.One.{One}
 use Rattle.arith.specs.declared.One.the-variants.{Not, Id}
 use Rattle.arith.specs.declared.Two.{Two}
 use Rattle.arith.specs.declared.Two.the-variants.{Add, Sub, Mul, Div, Eq, Lt, Gt, Le, Ge, And, Or, PtrAdd}
 use Rattle.arith.specs.Map.{pick}
 use Rattle.arith.specs.Code.{code1, code2, with-code, one-of, two-of}
-use Rattle.arith.specs.Value.{Val, bool, int}
-use Rattle.arith.specs.Operation.{Result, ok, stops, unset, apply1, apply2, Expr, constant, one, two}
+use Rattle.arith.specs.Value.{Val}
+use Rattle.arith.specs.Operation.{Expr, constant, one, two}
 use Rattle.record.specs.declared.NameIx.{NameIx}
 use Rattle.record.specs.Record.{NameIx-discrete, Instr, Block, Function, names-of, type-in, arg}
 use Rattle.record.specs.Form.{Form, pure, new, effect, return, nop, jump, branch, form}
 use Rattle.record.specs.Good.{Each}
 use Rattle.numbering.specs.declared.ValNum.{ValNum}
 use Rattle.numbering.specs.State.{State, start, gen-new-vals, number-of, known}
-use Rattle.numbering.specs.Simplify.{folded, fold1, fold2, is-int, is-bool, id-of, gives, absorbs, identity, ordered, first, simplify1, simplify2, simplify}
+use Rattle.numbering.specs.Simplify.{ordered, simplify}
 use Rattle.numbering.specs.Number.{reads, numbered, make-val, make-id-instr, val-to-instr, rewrite-instr, Saved, no-save, save, save-at, handle-overwrite, get-val-num, Emitted, number-dest, place, by-form, instr-lvn, block-lvn, blocks-lvn, lvn}
 use Rattle.numbering.proofs.Range.{each-append}
+use Rattle.numbering.proofs.Simplified.{OptionOk, OutcomesOf, simplified-ok}
 
 -- ---- values
 abbrev NotGreater : ℕ → Type 0
@@ -41,58 +41,6 @@ abbrev ValueOther : Expr ValNum → Type 0
 ValueOther (constant v) = Unit {0}
 ValueOther (one o a) = Unit {0}
 ValueOther (two o a b) = NotGreater (code2 o)
-
-abbrev FoundOther : Option (Expr ValNum) → Type 0
-FoundOther none = Unit {0}
-FoundOther (some e) = ValueOther e
-
-folded-other : (r : Result) → FoundOther (folded r)
-unfolding folded
-folded-other (ok v) = tt
-folded-other (stops c) = tt
-folded-other unset = tt
-
-fold2-other : (o : Two) (x y : Option Val) → FoundOther (fold2 o x y)
-unfolding fold2
-fold2-other o none y = tt
-fold2-other o (some x) none = tt
-fold2-other o (some x) (some y) = folded-other (apply2 o x y)
-
-fold1-other : (o : One) (x : Option Val) → FoundOther (fold1 o x)
-unfolding fold1
-fold1-other o none = tt
-fold1-other o (some x) = folded-other (apply1 o x)
-
-gives-other : (b : Bool) (e : Expr ValNum) (other : Option (Expr ValNum)) → ValueOther e → FoundOther other → FoundOther (gives b e other)
-gives-other true e other h k = h
-gives-other false e other h k = k
-
-absorbs-other : (z n : Bool) (x y : Option Val) (a b : ValNum) → FoundOther (absorbs z n x y a b)
-absorbs-other z n x y a b =
-    gives-other (is-bool z x) (constant (bool z)) _ tt
-    (gives-other (is-bool z y) (constant (bool z)) _ tt
-    (gives-other (is-bool n x) (id-of b) _ tt (gives-other (is-bool n y) (id-of a) none tt tt)))
-
-identity-other : (o : Two) (x y : Option Val) (a b : ValNum) → FoundOther (identity o x y a b)
-unfolding identity code2
-identity-other Add x y a b = gives-other (is-int 0 x) (id-of b) _ tt (gives-other (is-int 0 y) (id-of a) none tt tt)
-identity-other Sub x y a b = tt
-identity-other Mul x y a b =
-    gives-other (is-int 0 x) (constant (int 0)) _ tt
-    (gives-other (is-int 0 y) (constant (int 0)) _ tt
-    (gives-other (is-int 1 x) (id-of b) _ tt
-    (gives-other (is-int 1 y) (id-of a) _ tt
-    (gives-other (is-int 2 x) (two Add b b) _ (other 1 refl refl)
-    (gives-other (is-int 2 y) (two Add a a) none (other 1 refl refl) tt)))))
-identity-other Div x y a b = tt
-identity-other Eq x y a b = gives-other (eqb (a .0) (b .0)) (constant (bool true)) none tt tt
-identity-other Lt x y a b = tt
-identity-other Gt x y a b = tt
-identity-other Le x y a b = tt
-identity-other Ge x y a b = tt
-identity-other And x y a b = absorbs-other false true x y a b
-identity-other Or x y a b = absorbs-other true false x y a b
-identity-other PtrAdd x y a b = gives-other (is-int 0 y) (id-of a) none tt tt
 
 sorted-other : (o : Two) (c : Bool) (a b : ValNum) → NotGreater (code2 o) → ValueOther (cond c (two o b a) (two o a b))
 sorted-other o true a b h = h
@@ -113,22 +61,20 @@ ordered-other And a b = sorted-other And (ltb (b .0) (a .0)) a b (other 11 refl 
 ordered-other Or a b = sorted-other Or (ltb (b .0) (a .0)) a b (other 12 refl refl)
 ordered-other PtrAdd a b = other 14 refl refl
 
-getD-other : (x : Option (Expr ValNum)) (e : Expr ValNum) → FoundOther x → ValueOther e → ValueOther (Option·getD x e)
-getD-other none e h k = k
-getD-other (some x) e h k = h
-
-first-other : (x y : Option (Expr ValNum)) → FoundOther x → FoundOther y → FoundOther (first x y)
-first-other none y h k = k
-first-other (some x) y h k = h
+any-known : (x : Option Val) → OptionOk (λ v. Unit {0}) x
+any-known none = tt
+any-known (some v) = tt
 
 simplify-other : (f : ValNum → Option Val) (e : Expr ValNum) → ValueOther (simplify f e)
-unfolding simplify simplify1 simplify2
-simplify-other f (constant v) = tt
-simplify-other f (one o a) = getD-other (fold1 o (f a)) (one o a) (fold1-other o (f a)) tt
-simplify-other f (two o a b) =
-    getD-other (first (fold2 o (f a) (f b)) (identity o (f a) (f b) a b)) (ordered o a b)
-    (first-other (fold2 o (f a) (f b)) (identity o (f a) (f b) a b) (fold2-other o (f a) (f b)) (identity-other o (f a) (f b) a b))
-    (ordered-other o a b)
+unfolding code2
+simplify-other f e =
+    simplified-ok ValueOther (record { ints = λ w l. tt; bools = λ b. tt; pointers = λ t b o. tt }) f (λ v. any-known (f v)) e (outcomes e)
+  where
+    outcomes : (e : Expr ValNum) → OutcomesOf ValueOther _ e
+    outcomes (constant v) = tt
+    outcomes (one o a) = tt
+    outcomes (two o a b) =
+        record { left = tt; right = tt; left-twice = other 1 refl refl; right-twice = other 1 refl refl; in-order = ordered-other o a b }
 
 -- ---- what is written of a value
 written-other : (s : State) (i : Instr) (e : Expr ValNum) → ValueOther e → NotGreater (val-to-instr s i e .code)

@@ -1,5 +1,5 @@
--- Simplified values: their operands are numbers that are given, and their constants satisfy what holds of the known constants and of
--- what operations give, as that their literals pass the tests.
+-- Simplified values have what each outcome of simplify has. So their operands are numbers that are given, and their constants satisfy what
+-- holds of the known constants and of what operations give, as that their literals pass the tests.
 use Prim.Native.Nat.{ℕ, _<_}
 use mathlib.Core.Bool.{Bool, true, false, cond, not, _&&_, _||_}
 use mathlib.Core.Option.{Option, none, some, Option·getD}
@@ -72,10 +72,11 @@ pub known-ok : (P : Val → Type 0) (s : State) (v : ValNum) → ValueOk P (s .v
 unfolding known
 known-ok P s v h = known-expr-ok P (s .vals v) h
 
-module _ (P : Val → Type 0) (closed : Closed P) where
+-- ---- what simplify gives has a property of value expressions, Q, where each of its outcomes has it
+module _ (Q : Expr ValNum → Type 0) (closed : Closed (λ v. Q (constant v))) where
   -- ---- results of operations
   abbrev ResultOk : Result → Type 0
-  ResultOk (ok v) = P v
+  ResultOk (ok v) = Q (constant v)
   ResultOk (stops c) = Unit {0}
   ResultOk unset = Unit {0}
 
@@ -110,7 +111,7 @@ module _ (P : Val → Type 0) (closed : Closed P) where
   shift-ok (bool b) k = tt
   shift-ok (pointer t b o) k = closed .pointers t b (addW o k)
 
-  apply1-ok : (o : One) (x : Val) → P x → ResultOk (apply1 o x)
+  apply1-ok : (o : One) (x : Val) → Q (constant x) → ResultOk (apply1 o x)
   unfolding apply1
   apply1-ok Not x h = with-one-ok (asBool x) (λ a. ok (bool (not a))) (λ a. closed .bools (not a))
   apply1-ok Id x h = h
@@ -137,89 +138,117 @@ module _ (P : Val → Type 0) (closed : Closed P) where
   apply2-ok PtrAdd x y = with-one-ok (asInt y) (shift x) (shift-ok x)
 
   -- ---- value expressions
-  getD-ok : (n : ℕ) (m : Option (Expr ValNum)) (e : Expr ValNum) → MaybeOk P n m → ExprOk P n e → ExprOk P n (Option·getD m e)
-  getD-ok n none e p q = q
-  getD-ok n (some x) e p q = p
+  abbrev Found : Option (Expr ValNum) → Type 0
+  Found none = Unit {0}
+  Found (some e) = Q e
 
-  first-ok : (n : ℕ) (m k : Option (Expr ValNum)) → MaybeOk P n m → MaybeOk P n k → MaybeOk P n (first m k)
-  first-ok n none k p q = q
-  first-ok n (some e) k p q = p
+  getD-ok : (m : Option (Expr ValNum)) (e : Expr ValNum) → Found m → Q e → Q (Option·getD m e)
+  getD-ok none e p q = q
+  getD-ok (some x) e p q = p
 
-  gives-ok : (n : ℕ) (b : Bool) (e : Expr ValNum) (m : Option (Expr ValNum)) → ExprOk P n e → MaybeOk P n m → MaybeOk P n (gives b e m)
-  gives-ok n true e m p q = p
-  gives-ok n false e m p q = q
+  first-ok : (m k : Option (Expr ValNum)) → Found m → Found k → Found (first m k)
+  first-ok none k p q = q
+  first-ok (some e) k p q = p
 
-  folded-ok : (n : ℕ) (r : Result) → ResultOk r → MaybeOk P n (folded r)
+  gives-ok : (b : Bool) (e : Expr ValNum) (m : Option (Expr ValNum)) → Q e → Found m → Found (gives b e m)
+  gives-ok true e m p q = p
+  gives-ok false e m p q = q
+
+  folded-ok : (r : Result) → ResultOk r → Found (folded r)
   unfolding folded
-  folded-ok n (ok v) h = h
-  folded-ok n (stops c) h = tt
-  folded-ok n unset h = tt
+  folded-ok (ok v) h = h
+  folded-ok (stops c) h = tt
+  folded-ok unset h = tt
 
-  fold1-ok : (n : ℕ) (o : One) (x : Option Val) → OptionOk P x → MaybeOk P n (fold1 o x)
+  fold1-ok : (o : One) (x : Option Val) → OptionOk (λ v. Q (constant v)) x → Found (fold1 o x)
   unfolding fold1
-  fold1-ok n o none h = tt
-  fold1-ok n o (some x) h = folded-ok n (apply1 o x) (apply1-ok o x h)
+  fold1-ok o none h = tt
+  fold1-ok o (some x) h = folded-ok (apply1 o x) (apply1-ok o x h)
 
-  fold2-ok : (n : ℕ) (o : Two) (x y : Option Val) → MaybeOk P n (fold2 o x y)
+  fold2-ok : (o : Two) (x y : Option Val) → Found (fold2 o x y)
   unfolding fold2
-  fold2-ok n o none y = tt
-  fold2-ok n o (some x) none = tt
-  fold2-ok n o (some x) (some y) = folded-ok n (apply2 o x y) (apply2-ok o x y)
+  fold2-ok o none y = tt
+  fold2-ok o (some x) none = tt
+  fold2-ok o (some x) (some y) = folded-ok (apply2 o x y) (apply2-ok o x y)
 
-  module _ (n : ℕ) (x y : Option Val) (a b : ValNum) (p : a .0 < n) (q : b .0 < n) where
-    absorbs-ok : (z neutral : Bool) → MaybeOk P n (absorbs z neutral x y a b)
-    absorbs-ok z neutral =
-        gives-ok n (is-bool z x) (constant (bool z)) _ (closed .bools z)
-        (gives-ok n (is-bool z y) (constant (bool z)) _ (closed .bools z)
-        (gives-ok n (is-bool neutral x) (id-of b) _ q
-        (gives-ok n (is-bool neutral y) (id-of a) none p tt)))
+  -- the outcomes for two operands that are no constants
+  pub record Outcomes (o : Two) (a b : ValNum) : Type 0 where
+    pub left : Q (one Id a)
+    pub right : Q (one Id b)
+    pub left-twice : Q (two Add a a)
+    pub right-twice : Q (two Add b b)
+    pub in-order : Q (ordered o a b)
 
-    identity-ok : (o : Two) → MaybeOk P n (identity o x y a b)
+  module _ (x y : Option Val) (a b : ValNum) where
+    absorbs-ok : (z neutral : Bool) → Q (one Id a) → Q (one Id b) → Found (absorbs z neutral x y a b)
+    absorbs-ok z neutral p q =
+        gives-ok (is-bool z x) (constant (bool z)) _ (closed .bools z)
+        (gives-ok (is-bool z y) (constant (bool z)) _ (closed .bools z)
+        (gives-ok (is-bool neutral x) (id-of b) _ q (gives-ok (is-bool neutral y) (id-of a) none p tt)))
+
+    identity-ok : (o : Two) → Outcomes o a b → Found (identity o x y a b)
     unfolding identity
-    identity-ok Add = gives-ok n (is-int 0 x) (id-of b) _ q (gives-ok n (is-int 0 y) (id-of a) none p tt)
-    identity-ok Sub = tt
-    identity-ok Mul =
-        gives-ok n (is-int 0 x) (constant (int 0)) _ (closed .ints 0 (omega arith))
-        (gives-ok n (is-int 0 y) (constant (int 0)) _ (closed .ints 0 (omega arith))
-        (gives-ok n (is-int 1 x) (id-of b) _ q
-        (gives-ok n (is-int 1 y) (id-of a) _ p
-        (gives-ok n (is-int 2 x) (two Add b b) _ (q, q)
-        (gives-ok n (is-int 2 y) (two Add a a) none (p, p) tt)))))
-    identity-ok Div = tt
-    identity-ok Eq = gives-ok n (eqb (a .0) (b .0)) (constant (bool true)) none (closed .bools true) tt
-    identity-ok Lt = tt
-    identity-ok Gt = tt
-    identity-ok Le = tt
-    identity-ok Ge = tt
-    identity-ok And = absorbs-ok false true
-    identity-ok Or = absorbs-ok true false
-    identity-ok PtrAdd = gives-ok n (is-int 0 y) (id-of a) none p tt
+    identity-ok Add h = gives-ok (is-int 0 x) (id-of b) _ (h .right) (gives-ok (is-int 0 y) (id-of a) none (h .left) tt)
+    identity-ok Sub h = tt
+    identity-ok Mul h =
+        gives-ok (is-int 0 x) (constant (int 0)) _ (closed .ints 0 (omega arith))
+        (gives-ok (is-int 0 y) (constant (int 0)) _ (closed .ints 0 (omega arith))
+        (gives-ok (is-int 1 x) (id-of b) _ (h .right)
+        (gives-ok (is-int 1 y) (id-of a) _ (h .left)
+        (gives-ok (is-int 2 x) (two Add b b) _ (h .right-twice) (gives-ok (is-int 2 y) (two Add a a) none (h .left-twice) tt)))))
+    identity-ok Div h = tt
+    identity-ok Eq h = gives-ok (eqb (a .0) (b .0)) (constant (bool true)) none (closed .bools true) tt
+    identity-ok Lt h = tt
+    identity-ok Gt h = tt
+    identity-ok Le h = tt
+    identity-ok Ge h = tt
+    identity-ok And h = absorbs-ok false true (h .left) (h .right)
+    identity-ok Or h = absorbs-ok true false (h .left) (h .right)
+    identity-ok PtrAdd h = gives-ok (is-int 0 y) (id-of a) none (h .left) tt
 
-    sorted-ok : (o : Two) (c : Bool) → ExprOk P n (cond c (two o b a) (two o a b))
-    sorted-ok o true = (q, p)
-    sorted-ok o false = (p, q)
+  abbrev pub OutcomesOf : Expr ValNum → Type 0
+  OutcomesOf (constant v) = Q (constant v)
+  OutcomesOf (one o a) = Q (one o a)
+  OutcomesOf (two o a b) = Outcomes o a b
 
-    ordered-ok : (o : Two) → ExprOk P n (ordered o a b)
-    unfolding ordered
-    ordered-ok Add = sorted-ok Add (ltb (b .0) (a .0))
-    ordered-ok Sub = (p, q)
-    ordered-ok Mul = sorted-ok Mul (ltb (b .0) (a .0))
-    ordered-ok Div = (p, q)
-    ordered-ok Eq = sorted-ok Eq (ltb (b .0) (a .0))
-    ordered-ok Lt = (p, q)
-    ordered-ok Gt = (q, p)
-    ordered-ok Le = (p, q)
-    ordered-ok Ge = (q, p)
-    ordered-ok And = sorted-ok And (ltb (b .0) (a .0))
-    ordered-ok Or = sorted-ok Or (ltb (b .0) (a .0))
-    ordered-ok PtrAdd = (p, q)
-
-  pub simplify-ok :
-      (n : ℕ) (f : ValNum → Option Val) → ((v : ValNum) → OptionOk P (f v)) → (e : Expr ValNum) → ExprOk P n e → ExprOk P n (simplify f e)
+  pub simplified-ok :
+      (f : ValNum → Option Val) → ((v : ValNum) → OptionOk (λ u. Q (constant u)) (f v)) → (e : Expr ValNum) → OutcomesOf e → Q (simplify f e)
   unfolding simplify simplify1 simplify2
-  simplify-ok n f h (constant v) k = k
-  simplify-ok n f h (one o a) k = getD-ok n (fold1 o (f a)) (one o a) (fold1-ok n o (f a) (h a)) k
-  simplify-ok n f h (two o a b) k =
-      getD-ok n (first (fold2 o (f a) (f b)) (identity o (f a) (f b) a b)) (ordered o a b)
-      (first-ok n (fold2 o (f a) (f b)) (identity o (f a) (f b) a b) (fold2-ok n o (f a) (f b)) (identity-ok n (f a) (f b) a b (k .0) (k .1) o))
-      (ordered-ok n (f a) (f b) a b (k .0) (k .1) o)
+  simplified-ok f h (constant v) k = k
+  simplified-ok f h (one o a) k = getD-ok (fold1 o (f a)) (one o a) (fold1-ok o (f a) (h a)) k
+  simplified-ok f h (two o a b) k =
+      getD-ok (first (fold2 o (f a) (f b)) (identity o (f a) (f b) a b)) (ordered o a b)
+      (first-ok (fold2 o (f a) (f b)) (identity o (f a) (f b) a b) (fold2-ok o (f a) (f b)) (identity-ok (f a) (f b) a b o k))
+      (k .in-order)
+
+-- ---- operands that are given and constants that have P
+module _ (P : Val → Type 0) (n : ℕ) (a b : ValNum) (p : a .0 < n) (q : b .0 < n) where
+  sorted-ok : (o : Two) (c : Bool) → ExprOk P n (cond c (two o b a) (two o a b))
+  sorted-ok o true = (q, p)
+  sorted-ok o false = (p, q)
+
+  ordered-ok : (o : Two) → ExprOk P n (ordered o a b)
+  unfolding ordered
+  ordered-ok Add = sorted-ok Add (ltb (b .0) (a .0))
+  ordered-ok Sub = (p, q)
+  ordered-ok Mul = sorted-ok Mul (ltb (b .0) (a .0))
+  ordered-ok Div = (p, q)
+  ordered-ok Eq = sorted-ok Eq (ltb (b .0) (a .0))
+  ordered-ok Lt = (p, q)
+  ordered-ok Gt = (q, p)
+  ordered-ok Le = (p, q)
+  ordered-ok Ge = (q, p)
+  ordered-ok And = sorted-ok And (ltb (b .0) (a .0))
+  ordered-ok Or = sorted-ok Or (ltb (b .0) (a .0))
+  ordered-ok PtrAdd = (p, q)
+
+pub simplify-ok :
+    (P : Val → Type 0) (closed : Closed P) (n : ℕ) (f : ValNum → Option Val) → ((v : ValNum) → OptionOk P (f v)) →
+    (e : Expr ValNum) → ExprOk P n e → ExprOk P n (simplify f e)
+simplify-ok P closed n f h e k = simplified-ok (ExprOk P n) closed f h e (outcomes e k)
+  where
+    outcomes : (e : Expr ValNum) → ExprOk P n e → OutcomesOf (ExprOk P n) closed e
+    outcomes (constant v) k = k
+    outcomes (one o a) k = k
+    outcomes (two o a b) (p, q) =
+        record { left = p; right = q; left-twice = (p, p); right-twice = (q, q); in-order = ordered-ok P n a b p q o }
