@@ -72,17 +72,21 @@ class Generator:
         names = [n for n, (t, _) in enumerate(self.f.names) if t >= least]
         return self.rng.choice(names) if names else None
 
+    def const(self, i):
+        """The instruction with a dest and a literal that fits it, or None."""
+        i.dest = self.any_name()
+        fit = None if i.dest is None else self.literal(self.f.names[i.dest][0])
+        if not fit:
+            return None
+        i.kind, i.literal = fit
+        return i
+
     def instr(self, code):
         """An instruction of a code, or None where the names do not allow it."""
         rng, types = self.rng, [t for t, _ in self.f.names]
         i = Instr(rng.choice(IDS) if rng.random() < 0.2 else rng.randrange(64), code)
         if code == 0:
-            i.dest = self.any_name()
-            fit = None if i.dest is None else self.literal(types[i.dest])
-            if not fit:
-                return None
-            i.kind, i.literal = fit
-            return i
+            return self.const(i)
         if code in FIXED:
             args, dest = FIXED[code]
             i.args = [self.of_type(t) for t in args]
