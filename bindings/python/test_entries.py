@@ -79,7 +79,7 @@ class Answers(unittest.TestCase):
             self.assertEqual(lvn.rewrite(record), (rewriting, saves))
             self.assertEqual(lvn.figures(record), (size, saves, blocks))
             count += 1
-        self.assertEqual(count, 316)
+        self.assertEqual(count, 416)
 
     def test_refused(self):
         for record, answer in refused():
