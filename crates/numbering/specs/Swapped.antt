@@ -4,7 +4,6 @@ use mathlib.Core.Path.{_≡_, refl}
 use mathlib.Core.List.{List, [], _∷_, map}
 use Rattle.record.specs.Record.{Instr}
 use Rattle.record.specs.Short.{gives, set}
-use Rattle.numbering.specs.Examples.{written}
 use Rattle.numbering.specs.Turns.{Row, turned}
 use Rattle.numbering.specs.Opened.{all-of-numbering}
 
@@ -25,9 +24,11 @@ q-is c a b = gives 2 5 c (a ∷ b ∷ [])
 abbrev pub q-is-p : Instr
 q-is-p = gives 2 5 13 (4 ∷ [])
 
+-- i and j are written so, the second as a copy of the first
 abbrev pub share : Instr → Instr → Instr → Row
 share i j first = row (i ∷ j ∷ []) (first ∷ q-is-p ∷ [])
 
+-- each as itself
 abbrev pub apart : Instr → Instr → Instr → Instr → Row
 apart i j first second = row (i ∷ j ∷ []) (first ∷ second ∷ [])
 
@@ -56,7 +57,7 @@ pairs =
     apart (p-is 9 0 1) (q-is 8 0 1) (p-is 8 1 0) (q-is 8 0 1) ∷
     []
 
--- ---- known operands: x = 5, and y = 3 in the second
+-- ---- known operands: behind x = 5, and behind x = 5 and y = 3
 abbrev pub behind-5 : Instr → Instr → Row
 behind-5 i j = row (set 8 2 0 5 ∷ i ∷ []) (set 8 2 0 5 ∷ j ∷ [])
 
@@ -100,7 +101,7 @@ moved =
     row
     (p-is 7 0 1 ∷ set 9 0 0 7 ∷ q-is 6 1 0 ∷ [])
     (p-is 6 1 0 ∷ gives 9 6 13 (0 ∷ []) ∷ set 9 0 0 7 ∷ q-is 6 1 0 ∷ []) ∷
-    -- unseen operands are numbered as they are read, x before y: p = gt x y; a = add y x
+    -- unseen operands are numbered as they are read, x before y: p = gt x y; a = add y x, written add x y behind the save of a
     row
     (p-is 7 2 3 ∷ gives 2 0 1 (3 ∷ 2 ∷ []) ∷ [])
     (p-is 6 3 2 ∷ gives 2 6 13 (0 ∷ []) ∷ gives 2 0 1 (2 ∷ 3 ∷ []) ∷ []) ∷
