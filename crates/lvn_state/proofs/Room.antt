@@ -6,9 +6,8 @@ use mathlib.Core.Option.{Option, none, some}
 use native.Mathlib.Omega.{arith}
 use lib.ListN.{length}
 use borrow.Author.Tests.{le-ltb}
-use Rattle.arith.specs.declared.One.the-variants.{Not, Id}
-use Rattle.arith.specs.Map.{pick, upd}
-use Rattle.arith.specs.Operation.{Expr, constant, one, two}
+use Rattle.arith.specs.Map.{upd}
+use Rattle.arith.specs.Operation.{Expr}
 use Rattle.arith.proofs.Map.{upd-same, upd-other}
 use Rattle.record.specs.declared.NameIx.{NameIx}
 use Rattle.record.specs.Record.{nm, NameIx-discrete, Instr}
@@ -17,9 +16,7 @@ use Rattle.numbering.specs.declared.ValNum.{ValNum}
 use Rattle.numbering.specs.State.{vn, State, start-env, start, new-number, update-env, rehome, see, see-at, gen-new-vals}
 use Rattle.numbering.specs.Number.{
   Saved,
-  no-save,
   save,
-  save-at,
   handle-overwrite,
   get-val-num,
   number-dest,
@@ -31,6 +28,7 @@ use Rattle.numbering.specs.Number.{
   rewrite-instr,
   instr-lvn,
 }
+use Rattle.numbering.proofs.Overwritten.{Overwritten, kept, moved, overwritten}
 use Rattle.numbering.proofs.Saves.{gen-new-vals-temps}
 use Rattle.lvn_state.specs.declared.LvnState.{LvnState}
 use Rattle.lvn_state.specs.View.{state-of}
@@ -148,30 +146,13 @@ pub record Saves (m : ℕ) (s t : State) : Type 0 where
   pub room : room m t ≡ room m s
   pub temps : t .temps ≤ suc (s .temps)
 
-module _ (m N : ℕ) (s : State) (i : Instr) where
-  none-saved : Saves m s s
-  none-saved = record { next = refl; room = refl; temps = omega arith }
+overwritten-room : (m N : ℕ) (s : State) (i : Instr) (q : Saved) → Overwritten N s i q → Saves m s (q .state)
+unfolding save rehome room
+overwritten-room m N s i q kept = record { next = refl; room = refl; temps = omega arith }
+overwritten-room m N s i q (moved v) = record { next = refl; room = refl; temps = omega arith }
 
-  saved-at : (o : Option ValNum) → Saves m s (save-at N s i o .state)
-  unfolding save-at save rehome room
-  saved-at none = none-saved
-  saved-at (some v) = by (NameIx-discrete (s .locs v) (i .dest))
-    where
-      by : (d : Dec (s .locs v ≡ i .dest)) → Saves m s (pick d (save N s i v) (no-save s) .state)
-      by (yes p) = record { next = refl; room = refl; temps = omega arith }
-      by (no q) = none-saved
-
-  pub saved-room : (e : Option (Expr ValNum)) → Saves m s (handle-overwrite N s i e .state)
-  unfolding handle-overwrite
-  saved-room none = saved-at (s .env (i .dest))
-  saved-room (some (constant v)) = saved-at (s .env (i .dest))
-  saved-room (some (one Not a)) = saved-at (s .env (i .dest))
-  saved-room (some (one Id a)) = by (NameIx-discrete (s .locs a) (i .dest))
-    where
-      by : (d : Dec (s .locs a ≡ i .dest)) → Saves m s (pick d (no-save s) (save-at N s i (s .env (i .dest))) .state)
-      by (yes p) = none-saved
-      by (no q) = saved-at (s .env (i .dest))
-  saved-room (some (two o a b)) = saved-at (s .env (i .dest))
+pub saved-room : (m N : ℕ) (s : State) (i : Instr) (e : Option (Expr ValNum)) → Saves m s (handle-overwrite N s i e .state)
+saved-room m N s i e = overwritten-room m N s i (handle-overwrite N s i e) (overwritten N s i e)
 
 -- ---- one instruction
 -- it takes at most one number and one made name more

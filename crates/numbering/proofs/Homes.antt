@@ -10,7 +10,6 @@ use lib.Dec.{ltb}
 use borrow.Author.Tests.{ltb-true, ltb-false, lt-ltb}
 use Rattle.arith.proofs.Clash.{clash}
 use Rattle.arith.specs.declared.One.the-variants.{Not, Id}
-use Rattle.arith.specs.Map.{pick}
 use Rattle.arith.specs.Value.{Val}
 use Rattle.arith.specs.Operation.{Expr, constant, one, two}
 use Rattle.arith.proofs.Map.{upd-same, upd-ind}
@@ -19,7 +18,8 @@ use Rattle.record.specs.Record.{nm, NameIx-discrete, Instr}
 use Rattle.record.specs.Good.{Each}
 use Rattle.numbering.specs.declared.ValNum.{ValNum}
 use Rattle.numbering.specs.State.{vn, State, ValNum-discrete, start, new-number, update-env, rehome, see-at, see, gen-new-vals, number-of, home-of}
-use Rattle.numbering.specs.Number.{Saved, no-save, save, save-at, handle-overwrite, same-expr, find, get-val-num}
+use Rattle.numbering.specs.Number.{Saved, save, same-expr, find, get-val-num}
+use Rattle.numbering.proofs.Overwritten.{Overwritten, kept, moved}
 use Rattle.numbering.proofs.Simplified.{ExprOk, ValueOk}
 
 -- N: how many names the input has
@@ -148,32 +148,6 @@ gen-homed P N s [] h l = h
 gen-homed P N s (x ∷ xs) h l = gen-homed P N (see s x) xs (see-at-homed P N s x (s .env x) h (l .0)) (l .1)
 
 -- ---- the save
--- no save, or one whose made name takes a number as its home
-pub data Overwritten (N : ℕ) (s : State) (i : Instr) : Saved → Type 0 where
-  kept : Overwritten N s i (no-save s)
-  moved : (v : ValNum) → Overwritten N s i (save N s i v)
-
-picked : {P A : Type 0} (Q : A → Type 0) (d : Dec P) (a b : A) → Q a → Q b → Q (pick d a b)
-picked Q (yes p) a b x y = x
-picked Q (no h) a b x y = y
-
-save-at-overwritten : (N : ℕ) (s : State) (i : Instr) (o : Option ValNum) → Overwritten N s i (save-at N s i o)
-unfolding save-at
-save-at-overwritten N s i none = kept
-save-at-overwritten N s i (some v) =
-    picked (Overwritten N s i) (NameIx-discrete (s .locs v) (i .dest)) (save N s i v) (no-save s) (moved v) kept
-
-pub overwritten : (N : ℕ) (s : State) (i : Instr) (e : Option (Expr ValNum)) → Overwritten N s i (handle-overwrite N s i e)
-unfolding handle-overwrite
-overwritten N s i none = save-at-overwritten N s i (s .env (i .dest))
-overwritten N s i (some (constant v)) = save-at-overwritten N s i (s .env (i .dest))
-overwritten N s i (some (one Not a)) = save-at-overwritten N s i (s .env (i .dest))
-overwritten N s i (some (one Id a)) =
-    picked (Overwritten N s i) (NameIx-discrete (s .locs a) (i .dest)) (no-save s) (save-at N s i (s .env (i .dest)))
-    kept
-    (save-at-overwritten N s i (s .env (i .dest)))
-overwritten N s i (some (two o a b)) = save-at-overwritten N s i (s .env (i .dest))
-
 pub overwritten-homed :
     (P : Val → Type 0) (N : ℕ) (s : State) (i : Instr) (q : Saved) → Overwritten N s i q → Homed P N s → Homed P N (q .state)
 unfolding save rehome

@@ -1,3 +1,4 @@
+pub mod Overwritten
 pub mod Saves
 pub mod Made
 pub mod Digits

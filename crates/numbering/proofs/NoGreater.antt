@@ -11,18 +11,18 @@ use borrow.Author.Tests.{eqb-false}
 use Rattle.arith.specs.declared.One.the-variants.{Not, Id}
 use Rattle.arith.specs.declared.Two.{Two}
 use Rattle.arith.specs.declared.Two.the-variants.{Add, Sub, Mul, Div, Eq, Lt, Gt, Le, Ge, And, Or, PtrAdd}
-use Rattle.arith.specs.Map.{pick}
 use Rattle.arith.specs.Code.{code1, code2, with-code, one-of, two-of}
 use Rattle.arith.specs.Value.{Val}
 use Rattle.arith.specs.Operation.{Expr, constant, one, two}
 use Rattle.record.specs.declared.NameIx.{NameIx}
-use Rattle.record.specs.Record.{NameIx-discrete, Instr, Block, Function, names-of, type-in, arg}
+use Rattle.record.specs.Record.{Instr, Block, Function, names-of, type-in, arg}
 use Rattle.record.specs.Form.{Form, pure, new, effect, return, nop, jump, branch, form}
 use Rattle.record.specs.Good.{Each}
 use Rattle.numbering.specs.declared.ValNum.{ValNum}
 use Rattle.numbering.specs.State.{State, start, gen-new-vals, number-of, known}
 use Rattle.numbering.specs.Simplify.{ordered, simplify}
-use Rattle.numbering.specs.Number.{reads, numbered, make-val, make-id-instr, val-to-instr, rewrite-instr, Saved, no-save, save, save-at, handle-overwrite, get-val-num, Emitted, number-dest, place, by-form, instr-lvn, block-lvn, blocks-lvn, lvn}
+use Rattle.numbering.specs.Number.{reads, numbered, make-val, make-id-instr, val-to-instr, rewrite-instr, Saved, save, handle-overwrite, get-val-num, Emitted, number-dest, place, by-form, instr-lvn, block-lvn, blocks-lvn, lvn}
+use Rattle.numbering.proofs.Overwritten.{Overwritten, kept, moved, overwritten}
 use Rattle.numbering.proofs.Range.{each-append}
 use Rattle.numbering.proofs.Simplified.{OptionOk, OutcomesOf, simplified-ok}
 
@@ -89,26 +89,10 @@ unfolding code1
 id-other none s i v = other 13 refl refl
 id-other (some c) s i v = other 0 refl refl
 
-save-at-other : (N : ℕ) (s : State) (i : Instr) (o : Option ValNum) → Others (save-at N s i o .saves)
-unfolding save-at save code1
-save-at-other N s i none = tt
-save-at-other N s i (some v) = go (NameIx-discrete (s .locs v) (i .dest))
-  where
-    go : (d : Dec (s .locs v ≡ i .dest)) → Others (pick d (save N s i v) (no-save s) .saves)
-    go (yes p) = (other 13 refl refl, tt)
-    go (no p) = tt
-
-overwrite-other : (N : ℕ) (s : State) (i : Instr) (e : Option (Expr ValNum)) → Others (handle-overwrite N s i e .saves)
-unfolding handle-overwrite
-overwrite-other N s i none = save-at-other N s i (s .env (i .dest))
-overwrite-other N s i (some (constant v)) = save-at-other N s i (s .env (i .dest))
-overwrite-other N s i (some (one Not a)) = save-at-other N s i (s .env (i .dest))
-overwrite-other N s i (some (one Id a)) = go (NameIx-discrete (s .locs a) (i .dest))
-  where
-    go : (d : Dec (s .locs a ≡ i .dest)) → Others (pick d (no-save s) (save-at N s i (s .env (i .dest))) .saves)
-    go (yes p) = tt
-    go (no p) = save-at-other N s i (s .env (i .dest))
-overwrite-other N s i (some (two o a b)) = save-at-other N s i (s .env (i .dest))
+saves-other : (N : ℕ) (s : State) (i : Instr) (q : Saved) → Overwritten N s i q → Others (q .saves)
+unfolding save code1
+saves-other N s i q kept = tt
+saves-other N s i q (moved v) = (other 13 refl refl, tt)
 
 -- ---- what is written of an instruction: its saves and itself
 record Emits (e : Emitted) : Type 0 where
@@ -126,13 +110,13 @@ number-other q i e w (some v) h k = record { saves = h; instr = id-other (known 
 
 new-other : (N : ℕ) (s : State) (i : Instr) → NotGreater (i .code) → Emits (place N s i none)
 unfolding place
-new-other N s i h = record { saves = overwrite-other N s i none; instr = h }
+new-other N s i h = record { saves = saves-other N s i _ (overwritten N s i none); instr = h }
 
 value-other : (N : ℕ) (s : State) (i : Instr) (e : Expr ValNum) → ValueOther e → Emits (place N s i (some e))
 unfolding place
 value-other N s i e h =
     let q = handle-overwrite N s i (some e) in
-    number-other q i e (val-to-instr s i e) (get-val-num (q .state) e) (overwrite-other N s i (some e)) (written-other s i e h)
+    number-other q i e (val-to-instr s i e) (get-val-num (q .state) e) (saves-other N s i q (overwritten N s i (some e))) (written-other s i e h)
 
 -- whether an instruction may be written with the code it has
 abbrev KeepsCode : Form → Type 0

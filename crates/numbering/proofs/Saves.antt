@@ -8,21 +8,21 @@ use mathlib.Core.Option.{Option, none, some}
 use native.Mathlib.Omega.{arith}
 use borrow.Author.Tests.{le-leb, lt-leb}
 use Rattle.arith.specs.declared.One.{One}
-use Rattle.arith.specs.declared.One.the-variants.{Not, Id}
+use Rattle.arith.specs.declared.One.the-variants.{Id}
 use Rattle.arith.specs.declared.Two.{Two}
-use Rattle.arith.specs.Map.{pick}
 use Rattle.arith.specs.Code.{code1, code2}
 use Rattle.arith.specs.Value.{Val}
 use Rattle.arith.specs.Operation.{Expr, constant, one, two}
 use Rattle.record.specs.declared.NameIx.{NameIx}
-use Rattle.record.specs.Record.{nm, NameIx-discrete, no-lit, Instr, arg}
+use Rattle.record.specs.Record.{nm, no-lit, Instr, arg}
 use Rattle.record.specs.declared.Shape.{Shape}
 use Rattle.record.specs.Shape.{shape-of}
 use Rattle.record.specs.Form.{Form, pure, new, effect, return, nop, jump, branch, form}
 use Rattle.record.proofs.Form.{one-shape, two-shape}
 use Rattle.numbering.specs.declared.ValNum.{ValNum}
 use Rattle.numbering.specs.State.{State, new-number, update-env, rehome, see-at, see, gen-new-vals, known}
-use Rattle.numbering.specs.Number.{reads, make-val, make-const-instr, make-id-instr, val-to-instr, rewrite-instr, Saved, no-save, save, save-at, handle-overwrite, get-val-num, Emitted, unchanged, number-dest, place, by-form, instr-lvn, block-lvn, is-save, count-saves}
+use Rattle.numbering.specs.Number.{reads, make-val, make-const-instr, make-id-instr, val-to-instr, rewrite-instr, Saved, save, handle-overwrite, get-val-num, Emitted, unchanged, number-dest, place, by-form, instr-lvn, block-lvn, is-save, count-saves}
+use Rattle.numbering.proofs.Overwritten.{Overwritten, kept, moved, overwritten}
 
 -- ---- codes of what is written
 code1-dest : (o : One) → shape-of (code1 o) .dest ≡ true
@@ -48,29 +48,16 @@ pub data Saves (N id : ℕ) (x : NameIx) (k : ℕ) : List Instr → ℕ → Type
 abbrev SavesOf : ℕ → Instr → ℕ → Saved → Type 0
 SavesOf N i k q = Saves N (i .id) (i .dest) k (q .saves) (q .state .temps)
 
-pick-either : {P A : Type 0} (Q : A → Type 0) (d : Dec P) (a b : A) → Q a → Q b → Q (pick d a b)
-pick-either Q (yes p) a b x y = x
-pick-either Q (no h) a b x y = y
-
-save-at-saves : (N : ℕ) (s : State) (i : Instr) (o : Option ValNum) → i .dest .0 < N → SavesOf N i (s .temps) (save-at N s i o)
-unfolding save-at save rehome
-save-at-saves N s i none l = no-saves
-save-at-saves N s i (some v) l =
-    pick-either (SavesOf N i (s .temps)) (NameIx-discrete (s .locs v) (i .dest)) (save N s i v) (no-save s) (one-save l) no-saves
+overwritten-saves : (N : ℕ) (s : State) (i : Instr) (q : Saved) → Overwritten N s i q → i .dest .0 < N → SavesOf N i (s .temps) q
+unfolding save rehome
+overwritten-saves N s i q kept l = no-saves
+overwritten-saves N s i q (moved v) l = one-save l
 
 overwrite-saves :
     (N : ℕ) (s : State) (i : Instr) (e : Option (Expr ValNum)) →
     i .dest .0 < N →
     SavesOf N i (s .temps) (handle-overwrite N s i e)
-unfolding handle-overwrite
-overwrite-saves N s i none l = save-at-saves N s i (s .env (i .dest)) l
-overwrite-saves N s i (some (constant v)) l = save-at-saves N s i (s .env (i .dest)) l
-overwrite-saves N s i (some (one Not a)) l = save-at-saves N s i (s .env (i .dest)) l
-overwrite-saves N s i (some (one Id a)) l =
-    pick-either (SavesOf N i (s .temps)) (NameIx-discrete (s .locs a) (i .dest)) (no-save s) (save-at N s i (s .env (i .dest)))
-    no-saves
-    (save-at-saves N s i (s .env (i .dest)) l)
-overwrite-saves N s i (some (two o a b)) l = save-at-saves N s i (s .env (i .dest)) l
+overwrite-saves N s i e l = overwritten-saves N s i (handle-overwrite N s i e) (overwritten N s i e) l
 
 -- ---- what is written of an instruction
 -- under i's id and dest, with a code that has a dest

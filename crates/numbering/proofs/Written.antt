@@ -21,9 +21,10 @@ use Rattle.numbering.specs.declared.ValNum.{ValNum}
 use Rattle.numbering.specs.State.{State, new-number, update-env, gen-new-vals, number-of, known}
 use Rattle.numbering.specs.Number.{reads, numbered, make-val, make-const-instr, make-id-instr, make-val-instr, val-to-instr, rewrite-instr, Saved, handle-overwrite, get-val-num, Emitted, unchanged, number-dest, place, by-form, instr-lvn, operands}
 use Rattle.numbering.proofs.Codes.{reads-below, instr-original}
+use Rattle.numbering.proofs.Overwritten.{overwritten}
 use Rattle.numbering.proofs.Saves.{Dests}
 use Rattle.numbering.proofs.Simplified.{Closed, OptionOk, ExprOk, MaybeOk, maybe-value, known-ok, simplify-ok}
-use Rattle.numbering.proofs.Homes.{Homed, Seen, number-below, gen-seen, gen-homed, new-number-homed, update-env-homed, Below, get-val-num-below, overwritten, overwritten-homed, overwritten-next, overwritten-temps}
+use Rattle.numbering.proofs.Homes.{Homed, Seen, number-below, gen-seen, gen-homed, new-number-homed, update-env-homed, Below, get-val-num-below, overwritten-homed, overwritten-next, overwritten-temps}
 
 -- ---- what may be written of i, over the names below M
 pub data Written (P : Val → Type 0) (M : ℕ) (i : Instr) : Instr → Type 0 where
