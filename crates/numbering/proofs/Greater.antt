@@ -28,11 +28,11 @@ fold2-swap o p h none (some y) = refl
 fold2-swap o p h (some x) none = refl
 fold2-swap o p h (some x) (some y) = ap folded (h x y)
 
-greater-simplified : (f : ValNum → Option Val) (a b : ValNum) → simplify f (two Gt a b) ≡ simplify f (two Lt b a)
+pub greater-simplified : (f : ValNum → Option Val) (a b : ValNum) → simplify f (two Gt a b) ≡ simplify f (two Lt b a)
 unfolding simplify simplify2 identity ordered
 greater-simplified f a b = ap (λ e. Option·getD (first e none) (two Lt b a)) (sym (fold2-swap Lt Gt less-swaps (f b) (f a)))
 
-greater-equal-simplified : (f : ValNum → Option Val) (a b : ValNum) → simplify f (two Ge a b) ≡ simplify f (two Le b a)
+pub greater-equal-simplified : (f : ValNum → Option Val) (a b : ValNum) → simplify f (two Ge a b) ≡ simplify f (two Le b a)
 unfolding simplify simplify2 identity ordered
 greater-equal-simplified f a b = ap (λ e. Option·getD (first e none) (two Le b a)) (sym (fold2-swap Le Ge less-equal-swaps (f b) (f a)))
 
@@ -80,7 +80,7 @@ place-bare N s i e =
     ap (λ p. number-dest p (bare i) e (val-to-instr s (bare i) e) (get-val-num (p .state) e)) (overwrite-bare N s i e)
 
 -- names that have numbers get no others
-both-seen : (s : State) (a b : NameIx) (v w : ValNum) → s .env a ≡ some v → s .env b ≡ some w → gen-new-vals s (a ∷ b ∷ []) ≡ s
+pub both-seen : (s : State) (a b : NameIx) (v w : ValNum) → s .env a ≡ some v → s .env b ≡ some w → gen-new-vals s (a ∷ b ∷ []) ≡ s
 unfolding gen-new-vals see
 both-seen s a b v w p q = rw (p, q) refl
 

@@ -18,3 +18,4 @@ pub mod Ways
 pub mod Ahead
 pub mod Greater
 pub mod NoGreater
+pub mod Shared

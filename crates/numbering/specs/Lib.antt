@@ -7,6 +7,7 @@ pub mod Figures
 pub mod NameText
 pub mod Ways
 pub mod Ahead
+pub mod Shared
 pub mod Program
 pub mod Opened
 pub mod Examples

@@ -26,6 +26,7 @@ use Rattle.record.proofs.Typed.{accept-typed}
 use Rattle.numbering.specs.declared.ValNum.{ValNum}
 use Rattle.numbering.specs.Number.{instr-lvn, block-lvn, count-saves, blocks-lvn, lvn}
 use Rattle.numbering.specs.State.{State, start}
+use Rattle.numbering.specs.Shared.{Exchanged, SharesNumber}
 use Rattle.numbering.specs.Made.{made-name, made-names, made, rewriting}
 use Rattle.numbering.specs.declared.Rewritten.{Rewritten}
 use Rattle.numbering.specs.declared.Rewritten.the-variants.{Written, Room}
@@ -44,6 +45,7 @@ use Rattle.numbering.proofs.Ways.{made-saves, three-ways, ends-alone}
 use Rattle.numbering.proofs.Ahead.{figures-foretell, foretold-alone, written-was-foretold, room-was-foretold, figures-refuse, too-few, figures-keep-length, figures-untouched}
 use Rattle.numbering.proofs.Greater.{greater-is-less, greater-equal-is-less-equal}
 use Rattle.numbering.proofs.NoGreater.{none-greater}
+use Rattle.numbering.proofs.Shared.{shared-number}
 use Rattle.machine.specs.Machine.{Store, Answer, at-unset, run}
 use Rattle.machine.specs.Reached.{read-no-unset}
 use Rattle.pairing.specs.Demand.{shown, stop, Agree, TypedStore, Starts, RunAlike, SavesBounded, All}
@@ -247,9 +249,17 @@ pub refusals-write-no-place : (s each : List ℕ) → ((n k : ℕ) → figures s
 refusals-write-no-place = figures-untouched
 
 -- ---- the greater is the less, swapped (document 02, Point 2)
+-- "Groups comparing passes expect gt a b and lt b a to share a number": wherever in a block the two stand, the one or the other first, if a
+-- and b have the same numbers at both; ge a b and le b a likewise. That the numbers are given ones holds in every block of an accepted
+-- function (`Homed`, numbering/proofs/Homes).
+pub exchanged-share-number :
+    (c d : ℕ) → Exchanged c d → (N : ℕ) (t : NameIx → ℕ) (s : State) (is : List Instr) (i j x y a b : ℕ) →
+    SharesNumber c d N t s is i j x y a b
+exchanged-share-number = shared-number
+
 -- "simplify turns an unfolded gt into lt with its operands exchanged": where a and b have numbers, the instruction x = gt a b is rewritten
--- as x = lt b a under the same id would be: the same saves, the same instruction and the same state behind it. So they share a number,
--- and where one folds so does the other.
+-- as x = lt b a under the same id would be: the same saves, the same instruction and the same state behind it. So where one folds
+-- the other does.
 pub greater-as-less :
     (N : ℕ) (t : NameIx → ℕ) (s : State) (id x a b : ℕ) (v w : ValNum) → s .env (nm a) ≡ some v → s .env (nm b) ≡ some w →
     instr-lvn N t s (gives id x 7 (a ∷ b ∷ [])) ≡ instr-lvn N t s (gives id x 6 (b ∷ a ∷ []))
