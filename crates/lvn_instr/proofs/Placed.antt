@@ -29,8 +29,7 @@ use Rattle.numbering.specs.State.{State, new-number, update-env, gen-new-vals, 
 use Rattle.numbering.specs.Number.{reads, make-val-instr, make-id-instr, val-to-instr, rewrite-instr, Saved, handle-overwrite}
 use Rattle.numbering.specs.Number.{get-val-num, Emitted, unchanged, number-dest, place, by-form, instr-lvn}
 use Rattle.numbering.proofs.Saves.{gen-new-vals-temps}
-use Rattle.numbering.proofs.Overwritten.{overwritten}
-use Rattle.numbering.proofs.Homes.{overwritten-next}
+use Rattle.numbering.proofs.Overwritten.{overwritten, overwritten-next}
 use Rattle.numbering.proofs.Simplified.{MaybeOk}
 use Rattle.codes.specs.Op.{form-as}
 use Rattle.lvn_values.specs.Table.{val-num-of}

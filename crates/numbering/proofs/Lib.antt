@@ -5,6 +5,7 @@ pub mod Digits
 pub mod Texts
 pub mod Codes
 pub mod Simplified
+pub mod Given
 pub mod Homes
 pub mod Written
 pub mod Passes

@@ -23,8 +23,9 @@ use Rattle.numbering.specs.State.{State, start, gen-new-vals, number-of,
 use Rattle.numbering.specs.Simplify.{ordered, simplify}
 use Rattle.numbering.specs.Number.{reads, numbered, make-val, make-id-instr, val-to-instr, rewrite-instr, Saved, save, handle-overwrite, get-val-num, Emitted, number-dest, place, by-form, instr-lvn, block-lvn, blocks-lvn, lvn}
 use Rattle.numbering.proofs.Overwritten.{Overwritten, kept, moved, overwritten}
+use Rattle.numbering.proofs.Given.{any-closed, any-known}
 use Rattle.numbering.proofs.Range.{each-append}
-use Rattle.numbering.proofs.Simplified.{OptionOk, OutcomesOf, simplified-ok}
+use Rattle.numbering.proofs.Simplified.{OutcomesOf, simplified-ok}
 
 -- ---- values
 abbrev NotGreater : ℕ → Type 0
@@ -61,14 +62,10 @@ ordered-other And a b = sorted-other And (ltb (b .0) (a .0)) a b (other 11 refl 
 ordered-other Or a b = sorted-other Or (ltb (b .0) (a .0)) a b (other 12 refl refl)
 ordered-other PtrAdd a b = other 14 refl refl
 
-any-known : (x : Option Val) → OptionOk (λ v. Unit {0}) x
-any-known none = tt
-any-known (some v) = tt
-
 simplify-other : (f : ValNum → Option Val) (e : Expr ValNum) → ValueOther (simplify f e)
 unfolding code2
 simplify-other f e =
-    simplified-ok ValueOther (record { ints = λ w l. tt; bools = λ b. tt; pointers = λ t b o. tt }) f (λ v. any-known (f v)) e (outcomes e)
+    simplified-ok ValueOther any-closed f (λ v. any-known (f v)) e (outcomes e)
   where
     outcomes : (e : Expr ValNum) → OutcomesOf ValueOther _ e
     outcomes (constant v) = tt

@@ -1,12 +1,14 @@
 -- What `handle-overwrite` does, as two cases: no save, or one. Laws that hold of both go by these.
-use Prim.Native.Nat.{ℕ}
+use Prim.Native.Nat.{ℕ, _≤_}
+use mathlib.Core.Path.{_≡_, refl}
 use mathlib.Core.Option.{Option, none, some}
+use native.Mathlib.Omega.{arith}
 use Rattle.arith.specs.declared.One.the-variants.{Not, Id}
 use Rattle.arith.specs.Map.{pick}
 use Rattle.arith.specs.Operation.{Expr, constant, one, two}
 use Rattle.record.specs.Record.{NameIx-discrete, Instr}
 use Rattle.numbering.specs.declared.ValNum.{ValNum}
-use Rattle.numbering.specs.State.{State}
+use Rattle.numbering.specs.State.{State, rehome}
 use Rattle.numbering.specs.Number.{Saved, no-save, save, save-at, handle-overwrite}
 
 -- no save, or one whose made name takes a number as its home
@@ -34,3 +36,14 @@ overwritten N s i (some (one Id a)) =
     kept
     (save-at-overwritten N s i (s .env (i .dest)))
 overwritten N s i (some (two o a b)) = save-at-overwritten N s i (s .env (i .dest))
+
+-- ---- what both keep
+pub overwritten-next : (N : ℕ) (s : State) (i : Instr) (q : Saved) → Overwritten N s i q → q .state .next ≡ s .next
+unfolding save rehome
+overwritten-next N s i q kept = refl
+overwritten-next N s i q (moved v) = refl
+
+pub overwritten-temps : (N : ℕ) (s : State) (i : Instr) (q : Saved) → Overwritten N s i q → s .temps ≤ q .state .temps
+unfolding save rehome
+overwritten-temps N s i q kept = omega arith
+overwritten-temps N s i q (moved v) = omega arith

@@ -28,7 +28,8 @@ use Rattle.numbering.specs.Number.{reads, numbered, literal-for, make-co
 use Rattle.numbering.proofs.Codes.{reads-args, reads-below, instr-original, dest-below, none-there, body-originals}
 use Rattle.numbering.proofs.Saves.{Saves, no-saves, one-save, Emits, instr-emits, save-of, gen-new-vals-temps, block-temps}
 use Rattle.numbering.proofs.Simplified.{Closed}
-use Rattle.numbering.proofs.Homes.{Homed, Seen, home-below, gen-seen, gen-homed}
+use Rattle.numbering.proofs.Given.{Seen, gen-seen}
+use Rattle.numbering.proofs.Homes.{Homed, home-below, gen-homed}
 use Rattle.numbering.proofs.Written.{Written, ConstOk, itself, constant-of, over-one, over-two, EmittedOk, instr-emitted}
 
 -- ---- literals

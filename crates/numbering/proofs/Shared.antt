@@ -9,7 +9,6 @@ use native.Mathlib.Omega.{arith}
 use Rattle.arith.specs.declared.One.the-variants.{Not, Id}
 use Rattle.arith.specs.declared.Two.{Two}
 use Rattle.arith.specs.declared.Two.the-variants.{Lt, Gt, Le, Ge}
-use Rattle.arith.specs.Map.{pick}
 use Rattle.arith.specs.Equal.{Expr-discrete}
 use Rattle.arith.specs.Code.{code1, code2, with-code, one-of, two-of}
 use Rattle.arith.specs.Value.{Val}
@@ -21,11 +20,12 @@ use Rattle.record.specs.Record.{nm, NameIx-discrete, Instr}
 use Rattle.record.specs.Form.{Form, pure, new, effect, return, nop, jump, branch, form}
 use Rattle.record.specs.Short.{gives}
 use Rattle.numbering.specs.declared.ValNum.{ValNum}
-use Rattle.numbering.specs.State.{vn, State, ValNum-discrete, new-number, update-env, rehome, see-at, see, gen-new-vals, number-of, known-expr, known}
+use Rattle.numbering.specs.State.{vn, State, ValNum-discrete, start, new-number, update-env, rehome, see-at, see, gen-new-vals, number-of, known-expr, known}
 use Rattle.numbering.specs.Simplify.{simplify2, simplify}
 use Rattle.numbering.specs.Number.{reads, make-val, val-to-instr, rewrite-instr, Saved, save, handle-overwrite, same-expr, find, get-val-num, number-dest, place, by-form, instr-lvn}
 use Rattle.numbering.specs.Shared.{behind, Exchanged, gt-lt, lt-gt, ge-le, le-ge, Have, SharesNumber}
 use Rattle.numbering.proofs.Overwritten.{Overwritten, kept, moved, overwritten}
+use Rattle.numbering.proofs.Given.{Numbers, start-numbers, behind-numbers}
 use Rattle.numbering.proofs.Greater.{both-seen, greater-simplified, greater-equal-simplified}
 
 -- ---- the search for a value, f and g being tables that agree below the search's end
@@ -259,15 +259,17 @@ shares :
     form t (gives i x c (a ∷ b ∷ [])) ≡ pure (two o (nm a) (nm b)) →
     form t (gives j y d (b ∷ a ∷ [])) ≡ pure (two p (nm b) (nm a)) →
     ((f : ValNum → Option Val) (v w : ValNum) → simplify f (two o v w) ≡ simplify f (two p w v)) →
+    Numbers s →
     SharesNumber c d N t s is i j x y a b
-shares N t s is i j x y a b c d o p of-first of-second same v w l m h k =
+shares N t s is i j x y a b c d o p of-first of-second same given v w h k =
     let is-first = gives i x c (a ∷ b ∷ []) in
     let s₁ = instr-lvn N t s is-first .state in
     let s₂ = behind N t s₁ is in
     let g = grown-behind N t s₁ is in
     let e = simplify (known s) (two o v w) in
     let one-e : simplify (known s₂) (two p w v) ≡ e =
-    one-value s s₂ o p v w (grown-on s s₁ s₂ (grown-instr N t s is-first) g) l m (λ f. same f v w) in
+    one-value s s₂ o p v w (grown-on s s₁ s₂ (grown-instr N t s is-first) g) (given (nm a) v (h .left)) (given (nm b) w (h .right))
+    (λ f. same f v w) in
     let i₁ = rewrite-instr s (nm a ∷ nm b ∷ []) is-first in
     let i₂ = rewrite-instr s₂ (nm b ∷ nm a ∷ []) (gives j y d (b ∷ a ∷ [])) in
     let first : instr-lvn N t s is-first ≡ place N s i₁ (some e) = compared N t s i x a b c o v w of-first h in
@@ -277,14 +279,13 @@ shares N t s is i j x y a b c d o p of-first of-second same v w l m h k =
     placed-again N s s₂ i₁ i₂ e (subst (λ z. Grown (z .state) s₂) first g) ∙ ap (λ z. z .state .env (nm x)) (sym first)
 
 pub shared-number :
-    (c d : ℕ) → Exchanged c d → (N : ℕ) (t : NameIx → ℕ) (s : State) (is : List Instr) (i j x y a b : ℕ) →
-    SharesNumber c d N t s is i j x y a b
+    (c d : ℕ) → Exchanged c d → (N : ℕ) (t : NameIx → ℕ) (A k : ℕ) (js is : List Instr) (i j x y a b : ℕ) →
+    SharesNumber c d N t (behind N t (start A k) js) is i j x y a b
 unfolding form one-of two-of with-code code1 code2
-shared-number c d gt-lt N t s is i j x y a b =
-    shares N t s is i j x y a b 7 6 Gt Lt refl refl (λ f v w. greater-simplified f v w)
-shared-number c d lt-gt N t s is i j x y a b =
-    shares N t s is i j x y a b 6 7 Lt Gt refl refl (λ f v w. sym (greater-simplified f w v))
-shared-number c d ge-le N t s is i j x y a b =
-    shares N t s is i j x y a b 9 8 Ge Le refl refl (λ f v w. greater-equal-simplified f v w)
-shared-number c d le-ge N t s is i j x y a b =
-    shares N t s is i j x y a b 8 9 Le Ge refl refl (λ f v w. sym (greater-equal-simplified f w v))
+shared-number c d e N t A k js is i j x y a b = go e (behind-numbers N t (start A k) js (start-numbers A k))
+  where
+    go : {c d : ℕ} {s : State} → Exchanged c d → Numbers s → SharesNumber c d N t s is i j x y a b
+    go gt-lt h = shares N t _ is i j x y a b 7 6 Gt Lt refl refl greater-simplified h
+    go lt-gt h = shares N t _ is i j x y a b 6 7 Lt Gt refl refl (λ f v w. sym (greater-simplified f w v)) h
+    go ge-le h = shares N t _ is i j x y a b 9 8 Ge Le refl refl greater-equal-simplified h
+    go le-ge h = shares N t _ is i j x y a b 8 9 Le Ge refl refl (λ f v w. sym (greater-equal-simplified f w v)) h

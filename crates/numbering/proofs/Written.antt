@@ -21,10 +21,11 @@ use Rattle.numbering.specs.declared.ValNum.{ValNum}
 use Rattle.numbering.specs.State.{State, new-number, update-env, gen-new-vals, number-of, known}
 use Rattle.numbering.specs.Number.{reads, numbered, make-val, make-const-instr, make-id-instr, make-val-instr, val-to-instr, rewrite-instr, Saved, handle-overwrite, get-val-num, Emitted, unchanged, number-dest, place, by-form, instr-lvn, operands}
 use Rattle.numbering.proofs.Codes.{reads-below, instr-original}
-use Rattle.numbering.proofs.Overwritten.{overwritten}
+use Rattle.numbering.proofs.Overwritten.{overwritten, overwritten-next, overwritten-temps}
+use Rattle.numbering.proofs.Given.{Seen, number-below, gen-seen, Below, get-val-num-below}
 use Rattle.numbering.proofs.Saves.{Dests}
 use Rattle.numbering.proofs.Simplified.{Closed, OptionOk, ExprOk, MaybeOk, maybe-value, known-ok, simplify-ok}
-use Rattle.numbering.proofs.Homes.{Homed, Seen, number-below, gen-seen, gen-homed, new-number-homed, update-env-homed, Below, get-val-num-below, overwritten-homed, overwritten-next, overwritten-temps}
+use Rattle.numbering.proofs.Homes.{Homed, gen-homed, new-number-homed, update-env-homed, overwritten-homed}
 
 -- ---- what may be written of i, over the names below M
 pub data Written (P : Val → Type 0) (M : ℕ) (i : Instr) : Instr → Type 0 where
@@ -125,10 +126,10 @@ module _ (P : Val → Type 0) (closed : Closed P) where
   unfolding make-val
   make-val-ok N s (constant v) h p c = numbered-maybe (s .next) v (numbered v) refl c
   make-val-ok N s (one o a) h p c =
-      simplify-ok P closed (s .next) (known s) (λ v. known-ok P s v (h .values v)) (one o (number-of s a)) (number-below P N s a h (p .0))
+      simplify-ok P closed (s .next) (known s) (λ v. known-ok P s v (h .values v)) (one o (number-of s a)) (number-below s a (h .numbers) (p .0))
   make-val-ok N s (two o a b) h p c =
       simplify-ok P closed (s .next) (known s) (λ v. known-ok P s v (h .values v)) (two o (number-of s a) (number-of s b))
-      (number-below P N s a h (p .0), number-below P N s b h (p .1 .0))
+      (number-below s a (h .numbers) (p .0), number-below s b (h .numbers) (p .1 .0))
 
   unchanged-ok : (N : ℕ) (s : State) (i : Instr) → Homed P N s → EmittedOk P N i (unchanged s i)
   unchanged-ok N s i h = record { homed = h; written = itself }

@@ -1,6 +1,6 @@
 -- "gt a b and lt b a to share a number" (document 02, Point 2), said of any two places of a block. That it is so is proved in
 -- proofs/Shared.antt.
-use Prim.Native.Nat.{ℕ, _<_}
+use Prim.Native.Nat.{ℕ}
 use mathlib.Core.Path.{_≡_}
 use mathlib.Core.List.{List, [], _∷_}
 use mathlib.Core.Option.{some}
@@ -29,10 +29,10 @@ pub record Have (s : State) (a b : ℕ) (v w : ValNum) : Type 0 where
   pub right : s .env (nm b) ≡ some w
 
 -- from the state s: x = c a b under the id i, the instructions is, then y = d b a under the id j. Where a and b have the same numbers at both,
--- given ones, y gets the number that x got
+-- y gets the number that x got
 abbrev pub SharesNumber : ℕ → ℕ → ℕ → (NameIx → ℕ) → State → List Instr → (i j x y a b : ℕ) → Type 0
 SharesNumber c d N t s is i j x y a b =
     let first = instr-lvn N t s (gives i x c (a ∷ b ∷ [])) .state in
     let between = behind N t first is in
-    (v w : ValNum) → v .0 < s .next → w .0 < s .next → Have s a b v w → Have between a b v w →
+    (v w : ValNum) → Have s a b v w → Have between a b v w →
     instr-lvn N t between (gives j y d (b ∷ a ∷ [])) .state .env (nm y) ≡ first .env (nm x)

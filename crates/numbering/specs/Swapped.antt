@@ -2,8 +2,11 @@
 use Prim.Native.Nat.{ℕ}
 use mathlib.Core.Path.{_≡_, refl}
 use mathlib.Core.List.{List, [], _∷_, map}
-use Rattle.record.specs.Record.{Instr}
+use mathlib.Core.Option.{none, some}
+use Rattle.record.specs.Record.{nm, Instr, type-in}
 use Rattle.record.specs.Short.{gives, set}
+use Rattle.numbering.specs.State.{vn, start}
+use Rattle.numbering.specs.Shared.{behind}
 use Rattle.numbering.specs.Turns.{Row, turned}
 use Rattle.numbering.specs.Opened.{all-of-numbering}
 
@@ -113,3 +116,14 @@ pub swapped :
     map (map (λ (r : Row). r .3)) (pairs ∷ with-known ∷ moved ∷ [])
 unfolding all-of-numbering
 swapped = refl
+
+-- ---- the numbers of a, b, p and q behind p = gt a b, behind p = true, and behind q = lt b a, which takes the number that p had
+pub numbers :
+    map (λ is. map (λ x. behind 6 (type-in ints-and-bools) (start 2 0) is .env (nm x)) (0 ∷ 1 ∷ 4 ∷ 5 ∷ []))
+    ((p-is 7 0 1 ∷ []) ∷ (p-is 7 0 1 ∷ set 9 4 1 1 ∷ []) ∷ (p-is 7 0 1 ∷ set 9 4 1 1 ∷ q-is 6 1 0 ∷ []) ∷ []) ≡
+    (some (vn 0) ∷ some (vn 1) ∷ some (vn 2) ∷ none ∷ []) ∷
+    (some (vn 0) ∷ some (vn 1) ∷ some (vn 3) ∷ none ∷ []) ∷
+    (some (vn 0) ∷ some (vn 1) ∷ some (vn 3) ∷ some (vn 2) ∷ []) ∷
+    []
+unfolding all-of-numbering
+numbers = refl

@@ -26,7 +26,7 @@ use Rattle.record.proofs.Typed.{accept-typed}
 use Rattle.numbering.specs.declared.ValNum.{ValNum}
 use Rattle.numbering.specs.Number.{instr-lvn, block-lvn, count-saves, blocks-lvn, lvn}
 use Rattle.numbering.specs.State.{State, start}
-use Rattle.numbering.specs.Shared.{Exchanged, SharesNumber}
+use Rattle.numbering.specs.Shared.{behind, Exchanged, SharesNumber}
 use Rattle.numbering.specs.Made.{made-name, made-names, made, rewriting}
 use Rattle.numbering.specs.declared.Rewritten.{Rewritten}
 use Rattle.numbering.specs.declared.Rewritten.the-variants.{Written, Room}
@@ -249,12 +249,11 @@ pub refusals-write-no-place : (s each : List ℕ) → ((n k : ℕ) → figures s
 refusals-write-no-place = figures-untouched
 
 -- ---- the greater is the less, swapped (document 02, Point 2)
--- "Groups comparing passes expect gt a b and lt b a to share a number": wherever in a block the two stand, the one or the other first, if a
--- and b have the same numbers at both; ge a b and le b a likewise. That the numbers are given ones holds in every block of an accepted
--- function (`Homed`, numbering/proofs/Homes).
+-- "Groups comparing passes expect gt a b and lt b a to share a number": wherever in a block the two stand, the one or the other first, behind
+-- any instructions js and with any instructions is between them, if a and b have the same numbers at both; ge a b and le b a likewise.
 pub exchanged-share-number :
-    (c d : ℕ) → Exchanged c d → (N : ℕ) (t : NameIx → ℕ) (s : State) (is : List Instr) (i j x y a b : ℕ) →
-    SharesNumber c d N t s is i j x y a b
+    (c d : ℕ) → Exchanged c d → (N : ℕ) (t : NameIx → ℕ) (A k : ℕ) (js is : List Instr) (i j x y a b : ℕ) →
+    SharesNumber c d N t (behind N t (start A k) js) is i j x y a b
 exchanged-share-number = shared-number
 
 -- "simplify turns an unfolded gt into lt with its operands exchanged": where a and b have numbers, the instruction x = gt a b is rewritten
