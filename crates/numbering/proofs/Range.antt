@@ -5,20 +5,20 @@ use mathlib.Core.Bool.{Bool, true, false, cond, not}
 use mathlib.Core.List.{List, [], _∷_, _++_, map}
 use native.Mathlib.Omega.{arith}
 use lib.ListN.{length, getD, length-map}
-use lib.Dec.{leb, eqb}
-use borrow.Author.Tests.{leb-true}
+use lib.Dec.{eqb}
 use Rattle.arith.specs.Value.{tfloat, Val, int, literal, bool}
 use Rattle.record.specs.declared.NameIx.{NameIx}
 use Rattle.record.specs.Record.{nm, Bytes, Instr, Block, Name, Record, Function, function, texts, names-of, type-in, limits, id-bytes}
 use Rattle.record.specs.Form.{Form, value-of, form}
 use Rattle.record.specs.Good.{Each, InstrOk, RecordOk}
 use Rattle.record.specs.Ranged.{RangedInstr, RangedBlock, RangedName, Ranged}
-use Rattle.record.proofs.Tests.{and-right, at-most-le, names-args}
+use Rattle.record.proofs.Tests.{at-most-le, names-args}
 use Rattle.record.proofs.Form.{FormOf, of-constant, of-one, of-two, of-new, of-jump, of-branch, of-return, of-nop, of-effect, form-of}
 use Rattle.numbering.specs.State.{State, start, gen-new-vals}
 use Rattle.numbering.specs.Number.{reads, literal-for, rewrite-instr, instr-lvn, block-lvn, count-saves, blocks-lvn, lvn}
+use Rattle.numbering.specs.Decimal.{Digits}
 use Rattle.numbering.specs.Made.{digits, made-text, made-name, made-names, made, rewriting}
-use Rattle.numbering.proofs.Digits.{Digits, digits-are}
+use Rattle.numbering.proofs.Digits.{digit-most, digits-are}
 use Rattle.numbering.proofs.Codes.{instr-original, body-originals}
 use Rattle.numbering.proofs.Saves.{Saves, no-saves, one-save, instr-emits, block-temps}
 use Rattle.numbering.proofs.Simplified.{Closed}
@@ -127,8 +127,7 @@ bytes-append (b ∷ s) t h k = (h .0, bytes-append s t (h .1) k)
 digits-bytes : (ds : List ℕ) → Digits ds → Bytes ds
 digits-bytes [] h = tt
 digits-bytes (b ∷ ds) h =
-    let l : b ≤ 0x39 = leb-true b 0x39 (and-right (leb 0x30 b) _ (h .0)) in
-    (omega arith, digits-bytes ds (h .1))
+    let l : b ≤ 0x39 = digit-most b (h .0) in (omega arith, digits-bytes ds (h .1))
 
 made-bytes : (t : List ℕ) (k : ℕ) → Bytes t → Bytes (made-text t k)
 unfolding made-text

@@ -13,8 +13,9 @@ use Rattle.arith.proofs.Clash.{clash}
 use Rattle.record.specs.Text.{digit, letter, all-text, well-formed, undigited, ends-lvn, reserved, same-bytes, among}
 use Rattle.record.specs.Good.{Each}
 use Rattle.record.proofs.Tests.{and-left, and-right, and-both, same-bytes-eq}
+use Rattle.numbering.specs.Decimal.{Digits}
 use Rattle.numbering.specs.Made.{digits, made-text}
-use Rattle.numbering.proofs.Digits.{Digits, digits-are, digits-few, digits-injective}
+use Rattle.numbering.proofs.Digits.{digits-are, digits-few, digits-injective}
 
 or-right : (a b : Bool) → b ≡ true → (a || b) ≡ true
 or-right true b e = refl

@@ -1,6 +1,7 @@
 pub mod State
 pub mod Simplify
 pub mod Number
+pub mod Decimal
 pub mod Made
 pub mod Rewrite
 pub mod Figures
@@ -18,4 +19,5 @@ pub mod Entries
 pub mod Foreseen
 pub mod Parts
 pub mod Printed
+pub mod Numerals
 pub mod View

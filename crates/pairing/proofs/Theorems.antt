@@ -27,7 +27,8 @@ use Rattle.numbering.specs.declared.ValNum.{ValNum}
 use Rattle.numbering.specs.Number.{instr-lvn, block-lvn, count-saves, blocks-lvn, lvn}
 use Rattle.numbering.specs.State.{State, start}
 use Rattle.numbering.specs.Shared.{behind, Exchanged, SharesNumber}
-use Rattle.numbering.specs.Made.{made-name, made-names, made, rewriting}
+use Rattle.numbering.specs.Decimal.{Decimal}
+use Rattle.numbering.specs.Made.{digits, made-name, made-names, made, rewriting}
 use Rattle.numbering.specs.declared.Rewritten.{Rewritten}
 use Rattle.numbering.specs.declared.Rewritten.the-variants.{Written, Room}
 use Rattle.numbering.specs.declared.Figured.the-variants.{Counted, Refused, TooFew}
@@ -39,6 +40,7 @@ use Rattle.numbering.specs.Program.{most-input, buffer-size}
 use Rattle.numbering.proofs.Wide.{rewriting-passes}
 use Rattle.numbering.proofs.Size.{rewriting-room}
 use Rattle.numbering.proofs.Output.{accepted-bytes, buffer-suffices}
+use Rattle.numbering.proofs.Digits.{digits-are, digits-alone}
 use Rattle.numbering.proofs.Made.{saves-of, saves-args, names-from, saves-dests, lvn-makes}
 use Rattle.numbering.proofs.Differ.{texts-differ}
 use Rattle.numbering.proofs.Ways.{made-saves, three-ways, ends-alone}
@@ -273,3 +275,14 @@ greater-equal-as-less-equal = greater-equal-is-less-equal
 -- No instruction of a rewriting is gt or ge.
 pub no-greater-written : (f : Function) → All (λ (b : Block Instr). All (λ (i : Instr). (i .code ≢ 7) × (i .code ≢ 9)) (b .body)) (lvn f .blocks)
 no-greater-written = none-greater
+
+-- ---- digits straight into the name (document 02, Point 3)
+-- "exactly its decimal digits, with no leading zero but for 0 itself": the digits that the text of a made name has are those of K, each of
+-- them 0 to 9, of the value K in base ten, and 0 is the first of them only in 0 itself. That they are written so is the contract of
+-- `write_bytes::put_digits`.
+pub digits-are-decimal : (k : ℕ) → Decimal k (digits k)
+digits-are-decimal = digits-are
+
+-- No other list of bytes is the decimal digits of a number.
+pub decimal-alone : (k : ℕ) (t : List ℕ) → Decimal k t → t ≡ digits k
+decimal-alone = digits-alone

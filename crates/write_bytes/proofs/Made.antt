@@ -1,5 +1,5 @@
--- The digits of K and made names, written part by part.
-use Prim.Native.Nat.{ℕ, _+_, _-_, _/_, _%_, _<_, _≤_}
+-- Made names, written part by part.
+use Prim.Native.Nat.{ℕ, _+_, _-_}
 use mathlib.Core.Path.{_≡_, ap, _∙_}
 use mathlib.Core.List.{List, [], _∷_, _++_}
 use native.Mathlib.Omega.{arith}
@@ -9,20 +9,6 @@ use Rattle.numbering.specs.Made.{digits, made-text}
 use Rattle.write_bytes.specs.Put.{put, Wrote}
 use Rattle.record.proofs.Stands.{length-be}
 use Rattle.write_bytes.proofs.Wrote.{wrote-append, wrote-join, wrote-last, wrote-number, wrote-before}
-use Rattle.write_bytes.proofs.Digits.{digits-one, digits-more}
-
-module _ {l m : List ℕ} {i : ℕ} (k : ℕ) where
-  pub one-wrote : k < 10 → m ≡ put l i (be 1 (48 + k)) → Wrote l m i (i + 1) (digits k)
-  unfolding be
-  one-wrote h e = rw (digits-one k h) (wrote-number 1 (48 + k) e)
-
-  pub more-wrote :
-      {r : List ℕ} {p : ℕ} → 10 ≤ k →
-      Wrote l m i p (digits (k / 10)) →
-      r ≡ put m p (be 1 (48 + k % 10)) →
-      Wrote l r i (p + 1) (digits k)
-  unfolding be
-  more-wrote h a e = rw (digits-more k h) (wrote-append (digits (k / 10)) (be 1 (48 + k % 10)) a (wrote-number 1 (48 + k % 10) e))
 
 -- `_`, the text, `_lvn` as a number of four bytes, the digits
 pub text-wrote :

@@ -1,18 +1,12 @@
 -- Bytes moved up, the last first: what has been moved stands behind, and what is left to move has not changed.
-use Prim.Native.Nat.{ℕ, suc, _+_, _-_, _<_, _≤_}
-use mathlib.Core.Path.{_≡_, refl, sym, ap, _∙_}
-use mathlib.Core.List.{List, [], _∷_}
+use Prim.Native.Nat.{ℕ, suc, _+_, _-_, _≤_}
+use mathlib.Core.Path.{_≡_, sym, ap, _∙_}
+use mathlib.Core.List.{List}
 use native.Mathlib.Omega.{arith}
 use lib.ListN.{length, getD, set, take, drop, length-drop, drop-of-length-le}
-use lib.Seq.{drop-cons, getD-drop, getD-take, getD-set-other, length-take-le}
+use lib.Seq.{drop-cons, getD-drop, getD-take, length-take-le}
 use Rattle.write_bytes.specs.Put.{put}
-use Rattle.write_bytes.proofs.Put.{set-put}
-
--- what stands before a write
-before-put : (l : List ℕ) (i j : ℕ) (xs : List ℕ) → j < i → getD (put l i xs) j 0 ≡ getD l j 0
-unfolding put
-before-put l i j [] h = refl
-before-put l i j (x ∷ xs) h = before-put (set l i x) (i + 1) j xs (omega arith) ∙ getD-set-other l i j x 0 (λ e. omega arith)
+use Rattle.write_bytes.proofs.Put.{set-put, before-put}
 
 module _ (l : List ℕ) (from to n : ℕ) where
   -- what is moved, and the list when `left` bytes are left to move

@@ -5,8 +5,8 @@ use mathlib.Core.List.{List, [], _∷_, _++_, append-assoc}
 use mathlib.Core.Bool.{Bool, true, false}
 use native.Mathlib.Omega.{arith}
 use native.Mathlib.Numerals.{add-one}
-use lib.ListN.{length, set, take, drop, length-set}
-use lib.Seq.{set-out, set-comm, sets, sets-eq, length-take-le, take-append-seam, drop-append-seam}
+use lib.ListN.{length, getD, set, take, drop, length-set}
+use lib.Seq.{getD-set-same, getD-set-other, set-out, set-comm, sets, sets-eq, length-take-le, take-append-seam, drop-append-seam}
 use lib.Dec.{eqb}
 use borrow.Author.Tests.{eqb-true, eqb-false}
 use Rattle.write_bytes.specs.Put.{put}
@@ -45,6 +45,29 @@ put-swap l i j (x ∷ xs) ys h =
 -- what stands first is written behind the rest
 pub put-before : (l : List ℕ) (i : ℕ) (xs ys : List ℕ) → put (put l (i + length xs) ys) i xs ≡ put l i (xs ++ ys)
 put-before l i xs ys = sym (put-swap l i (i + length xs) xs ys (omega arith)) ∙ put-put l i xs ys
+
+-- ---- what stands where afterwards
+pub before-put : (l : List ℕ) (i j : ℕ) (xs : List ℕ) → j < i → getD (put l i xs) j 0 ≡ getD l j 0
+unfolding put
+before-put l i j [] h = refl
+before-put l i j (x ∷ xs) h = before-put (set l i x) (i + 1) j xs (omega arith) ∙ getD-set-other l i j x 0 (λ e. omega arith)
+
+pub behind-put : (l : List ℕ) (i j : ℕ) (xs : List ℕ) → i + length xs ≤ j → getD (put l i xs) j 0 ≡ getD l j 0
+unfolding put
+behind-put l i j [] h = refl
+behind-put l i j (x ∷ xs) h = behind-put (set l i x) (i + 1) j xs (omega arith) ∙ getD-set-other l i j x 0 (λ e. omega arith)
+
+pub put-at : (l : List ℕ) (i : ℕ) (xs : List ℕ) (n : ℕ) → n < length xs → i + n < length l → getD (put l i xs) (i + n) 0 ≡ getD xs n 0
+unfolding put
+put-at l i [] n h r = absurd (omega arith)
+put-at l i (x ∷ xs) zero h r =
+    let e : i + 0 ≡ i = omega arith in
+    ap (λ (z : ℕ). getD (put (set l i x) (i + 1) xs) z 0) e ∙ before-put (set l i x) (i + 1) i xs (omega arith) ∙
+    getD-set-same l i x 0 (omega arith)
+put-at l i (x ∷ xs) (suc n) h r =
+    let e : i + suc n ≡ i + 1 + n = omega arith in
+    let k : length (set l i x) ≡ length l = length-set l i x in
+    ap (λ (z : ℕ). getD (put (set l i x) (i + 1) xs) z 0) e ∙ put-at (set l i x) (i + 1) xs n (omega arith) (omega arith)
 
 -- ---- what is written over
 set-twice : (l : List ℕ) (i x y : ℕ) → set (set l i x) i y ≡ set l i y

@@ -26,3 +26,7 @@ longest-text = 200
 -- no rewriting makes more names: 64 blocks of 256 instructions
 abbrev pub most-made : ℕ
 most-made = 16384
+
+-- no number of 64 bits has more decimal digits
+abbrev pub most-digits : ℕ
+most-digits = 20

@@ -6,7 +6,8 @@ ghost use lib.ListN.{length, take, drop};
 ghost use Rattle.record.specs.Write.{be, name-bytes};
 ghost use Rattle.numbering.specs.Made.{digits, made-text};
 ghost use Rattle.read_fields.specs.Places.{places};
-ghost use Rattle.write_bytes.specs.Put.{put, Wrote, IdWidth, longest-text, most-made};
+ghost use Rattle.write_bytes.specs.Put.{put, Wrote, IdWidth, longest-text, most-made, most-digits};
+ghost use Rattle.write_bytes.specs.Stand.{Stand};
 
 // One byte.
 pub fn put_u8(out: &mut [u8], at: usize, x: u8)
@@ -95,38 +96,43 @@ pub fn copy_bytes(src: &[u8], from: usize, n: usize, out: &mut [u8], at: usize) 
     at + m
 }
 
-// The decimal digits of k; the place behind them.
-pub fn put_digits(out: &mut [u8], at: usize, k: u64) -> usize
-    requires { ⌜ at + 21 < places ⌝ }
-    ensures { λ r. ⌜ Wrote (now (out .entry)) (now (out .exit)) at r (digits k) × (r ≤ at + 20) ⌝ }
+// How many decimal digits k has: four at a time, then by the powers of ten.
+pub fn count_digits(k: u64) -> usize
+    ensures { λ r. ⌜ (r ≡ length (digits k)) × (r ≤ most-digits) ⌝ }
 {
-    if k < 10 {
-        put_u8(out, at, 48 + k as u8);
-        return at + 1;
+    let mut n = 0;
+    let mut left = k;
+    while left >= 10000 {
+        left /= 10000;
+        n += 4;
     }
-    let last = put_digits(out, at, k / 10);
-    put_u8(out, last, 48 + (k % 10) as u8);
-    last + 1
+    if left < 10 {
+        return n + 1;
+    }
+    if left < 100 {
+        return n + 2;
+    }
+    if left < 1000 {
+        return n + 3;
+    }
+    n + 4
 }
 
-// How many digits k has.
-pub fn count_digits(k: u64) -> usize
-    requires { ⌜ k < 100000 ⌝ }
-    ensures { λ r. ⌜ (r ≡ length (digits k)) × (r ≤ 5) ⌝ }
+// The decimal digits of k, the last first, each straight to its place; the place behind them.
+pub fn put_digits(out: &mut [u8], at: usize, k: u64) -> usize
+    requires { ⌜ at + most-digits < places ⌝ }
+    ensures { λ r. ⌜ Stand (now (out .entry)) (now (out .exit)) at r (digits k) × (r ≤ at + most-digits) ⌝ }
 {
-    if k < 10 {
-        return 1;
+    let n = count_digits(k);
+    let end = at + n;
+    let mut left = k;
+    let mut i = 0;
+    while i < n {
+        put_u8(out, end - 1 - i, 48 + (left % 10) as u8);
+        left /= 10;
+        i += 1;
     }
-    if k < 100 {
-        return 2;
-    }
-    if k < 1000 {
-        return 3;
-    }
-    if k < 10000 {
-        return 4;
-    }
-    5
+    end
 }
 
 // The text of the name made with K = k of the n bytes of src: `_`, they, `_lvn` and the digits of k.

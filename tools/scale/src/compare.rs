@@ -1,11 +1,11 @@
-//! The comparison at scale: small functions of every kind, random ones, and
-//! damaged copies, until a count or a time is reached.
+//! The comparison at scale: one function that makes every K, small functions of
+//! every kind, random ones, and damaged copies, until a count or a time is reached.
 
 use crate::damage::damaged;
 use crate::function::{Encoded, Function, CODES};
 use crate::generate::Generator;
 use crate::one::{self, hex, Lent, Same};
-use crate::small;
+use crate::{rows, small};
 use std::time::{Duration, Instant};
 
 pub struct Options {
@@ -28,6 +28,7 @@ struct Largest {
 
 #[derive(Default)]
 struct Tally {
+    every_k: u64,
     comparisons: u64,
     all_comparisons: bool,
     small: u64,
@@ -45,7 +46,7 @@ struct Tally {
 
 impl Tally {
     fn accepted(&self) -> u64 {
-        self.comparisons + self.small + self.random + self.still_accepted
+        self.every_k + self.comparisons + self.small + self.random + self.still_accepted
     }
 
     fn sizes(&mut self, f: &Function, record: usize) {
@@ -121,6 +122,7 @@ pub fn run(options: &Options) -> bool {
         Some(count) => tally.accepted() >= count,
         None => start.elapsed() >= Duration::from_secs(options.seconds),
     };
+    c.tally.every_k = u64::from(c.function(&rows::saves(64), &mut encoded));
     while !done(&c.tally) {
         for _ in 0..16 {
             if let Some(f) = comparisons.next() {
@@ -159,6 +161,7 @@ fn summary(c: &mut Compare, options: &Options, time: Duration) {
     let all = |are: bool| if are { "all of them" } else { "not all of them" };
     println!("seed {}, {:.1} s", options.seed, time.as_secs_f64());
     println!("{} functions rewritten to the bytes of the altered Rust:", t.accepted());
+    println!("  {} of 16384 saves, so with each K from 0 to 16383", t.every_k);
     println!("  {} blocks of up to three comparisons, consts, ids and prints ({})", t.comparisons, all(t.all_comparisons));
     println!("  {} blocks of up to three instructions over two names ({})", t.small, all(t.all_small));
     println!("  {} random functions, {} damaged copies that are accepted", t.random, t.still_accepted);

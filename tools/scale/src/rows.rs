@@ -48,11 +48,11 @@ fn c1() -> Function {
     Function { args: 2, names, blocks: vec![vec![add(7, 2, [0, 1]), add(8, 2, [1, 0])]] }
 }
 
-/// Two blocks of 256 sums, each over the home of its number: 512 saves.
-fn saves() -> Function {
+/// Blocks of 256 sums, each over the home of its number, so that each makes a save.
+pub fn saves(blocks: usize) -> Function {
     let names = ["a", "x"].map(|text| (INT, text.as_bytes().to_vec())).to_vec();
     let block: Vec<Instr> = (0..256).map(|n| add(n, 1, [1, 0])).collect();
-    Function { args: 2, names, blocks: vec![block.clone(), block] }
+    Function { args: 2, names, blocks: vec![block; blocks] }
 }
 
 /// Blocks of sums, differences and products of random names, which have so many bytes of text.
@@ -108,7 +108,7 @@ pub fn rows(seed: u64) -> Vec<Row> {
     let mut rng = Rng::new(seed);
     let mut all = vec![
         Row::new("C1", &[c1()]).tight(),
-        Row::new("512 saves", &[saves()]).tight(),
+        Row::new("512 saves", &[saves(2)]).tight(),
         Row::new("64 blocks of 256", &[random_ints(&mut rng, 2, 64, 8, 64, 256)]).tight(),
         Row::new("256 names", &[random_ints(&mut rng, 2, 256, 32, 1, 256)]).tight(),
         Row::new("many small", &many_small(seed)).tight(),

@@ -5,6 +5,7 @@ use lib.ListN.{length}
 use Rattle.numbering.specs.Made.{digits}
 use Rattle.numbering.proofs.Digits.{digits-few}
 use Rattle.write_bytes.specs.Put.{Wrote}
+use Rattle.write_bytes.proofs.Stand.{stand-wrote}
 use Rattle.report.proofs.Line.{line-wrote}
 use borrow.Author.Needs.{needs}
 use Rattle.report.proofs.put_refusal.Statement.{statement}
@@ -20,10 +21,10 @@ returns c =
     let z = a .before .before .before .before in
     let n = z .args .number in
     let w : Wrote _ _ _ _ _ =
-    line-wrote n (z .args .value) (a .copy-bytes .ensures .0) (b .put-digits .ensures .0)
-    (x .copy-bytes2 .ensures .0) (d .put-digits2 .ensures .0) (e .put-u8 .ensures) in
+    line-wrote n (z .args .value) (a .copy-bytes .ensures .0) (stand-wrote (digits n) (b .put-digits .ensures .0))
+    (x .copy-bytes2 .ensures .0) (stand-wrote (digits (z .args .value)) (d .put-digits2 .ensures .0)) (e .put-u8 .ensures) in
     let few : length (digits n) ≤ 3 = digits-few n 2 (omega (arith, z .fits .number)) in
-    (w, omega (arith, a .copy-bytes .ensures .1, b .put-digits .ensures .0 .end, x .copy-bytes2 .ensures .1, d .put-digits2 .ensures .1))
+    (w, omega (arith, a .copy-bytes .ensures .1, b .put-digits .ensures .0 .behind, x .copy-bytes2 .ensures .1, d .put-digits2 .ensures .1))
 
 pub put-refusal-spec : {M : Type 1} → statement M
 put-refusal-spec =
