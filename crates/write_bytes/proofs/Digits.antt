@@ -1,5 +1,5 @@
 -- The digits of a number as they are counted, and as they are written: from the last to the first.
-use Prim.Native.Nat.{ℕ, zero, suc, _+_, _-_, _*_, _/_, _%_, _^_, _<_, _≤_}
+use Prim.Native.Nat.{ℕ, zero, suc, _+_, _*_, _/_, _%_, _^_, _<_, _≤_}
 use mathlib.Core.Path.{_≡_, refl, sym, ap, _∙_}
 use mathlib.Core.List.{List, [], _∷_, _++_}
 use native.Mathlib.Omega.{arith}
@@ -24,7 +24,7 @@ digits-count (suc j) k h l =
     one-more-digit k (omega arith) ∙ ap suc (digits-count j (k / 10) (omega arith) (omega arith))
 
 -- four at a time
-pub four-more-digits : (k : ℕ) → 10000 ≤ k → length (digits k) ≡ 4 + length (digits (k / 10000))
+four-more-digits : (k : ℕ) → 10000 ≤ k → length (digits k) ≡ 4 + length (digits (k / 10000))
 four-more-digits k h =
     let e : k / 10 / 10 / 10 / 10 ≡ k / 10000 = omega arith in
     let a = one-more-digit k (omega arith) in
