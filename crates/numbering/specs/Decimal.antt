@@ -20,7 +20,7 @@ decimal-after n (b ∷ t) = decimal-after (n * 10 + (b - 0x30)) t
 unfoldable pub decimal : List ℕ → ℕ
 decimal t = decimal-after 0 t
 
--- t is the decimal digits of n
+-- t is the decimal digits of n (document 02, Point 3: "exactly its decimal digits")
 pub record Decimal (n : ℕ) (t : List ℕ) : Type 0 where
   pub each : Digits t
   pub some : 0 < length t

@@ -13,8 +13,7 @@ unfoldable pub digits-of : ℕ → ℕ → List ℕ
 digits-of zero n = []
 digits-of (suc more) n = cond (ltb n 10) ((0x30 + n) ∷ []) (digits-of more (n / 10) ++ ((0x30 + n % 10) ∷ []))
 
--- all of them; that they are what `Decimal` (Decimal) asks, and nothing else is, is proved: `digits-are`, `digits-alone`
--- (numbering/proofs/Digits)
+-- all of them; `Decimal` (Decimal) says what the decimal digits of a number are
 unfoldable pub digits : ℕ → List ℕ
 digits n = digits-of (suc n) n
 

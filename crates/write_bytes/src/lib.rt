@@ -118,7 +118,7 @@ pub fn count_digits(k: u64) -> usize
     n + 4
 }
 
-// The decimal digits of k, the last first, each straight to its place; the place behind them.
+// The decimal digits of k, the last first, each straight to its place; the place behind them. Document 02, Point 3: the one promise on digits.
 pub fn put_digits(out: &mut [u8], at: usize, k: u64) -> usize
     requires { ⌜ at + most-digits < places ⌝ }
     ensures { λ r. ⌜ Stand (now (out .entry)) (now (out .exit)) at r (digits k) × (r ≤ at + most-digits) ⌝ }
