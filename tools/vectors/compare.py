@@ -2,6 +2,7 @@
 
 compare.py                     the Rust against vectors/*.txt
 compare.py --random N [--seed S]   the Rust against model.py on N random records
+compare.py --divisions N [--seed S]   the same on N random records of divisions
 compare.py --exhaustive        the same on all small records of exhaustive.py
 On a record without gt and ge the unaltered Rust must answer the same. The last
 line is `N passed, M failed`.
@@ -16,7 +17,7 @@ from pathlib import Path
 
 from check import check
 from exhaustive import comparisons, operations, short_blocks
-from generate import records
+from generate import divisions, records
 from model import GE, GT, Model, rewrite
 from record import from_bytes, to_bytes, to_text
 
@@ -65,13 +66,14 @@ def say_asked(count):
 
 def stored():
     """Pairs of a label and whether it agrees. A refused record is not given
-    to the Rust, a division on which it panics stays by document 01; both are
-    compared with the model alone, as all others are too."""
+    to the Rust; on C7 and on the records of quotients.txt it is to panic. Both
+    are compared with the model alone, as all others are too."""
     cases = []
     for line in (TOP / "vectors/worked.txt").read_text().splitlines():
         cases.append(line.split(" ", 2))
-    for n, line in enumerate((TOP / "vectors/rewritings.txt").read_text().splitlines(), 1):
-        cases.append(["rewritings.txt:%d" % n, *line.split(" ", 1)])
+    for name in ("rewritings.txt", "quotients.txt"):
+        for n, line in enumerate((TOP / "vectors" / name).read_text().splitlines(), 1):
+            cases.append(["%s:%d" % (name, n), *line.split(" ", 1)])
     asked = [c for c in cases if not c[2].startswith("refused")]
     answers = dict(zip((c[0] for c in asked), both([c[1] for c in asked])))
     say_asked(sum(same is not None for _, same in answers.values()))
@@ -80,7 +82,8 @@ def stored():
         agree = out == (by_model if isinstance(by_model, str) else by_model.hex())
         if label in answers:
             answer, same = answers[label]
-            agree = agree and answer == ("panic" if label == "C7" else out) and same is not False
+            panics = label == "C7" or label.startswith("quotients.txt")
+            agree = agree and answer == ("panic" if panics else out) and same is not False
         yield label, agree
 
 
@@ -96,16 +99,18 @@ def parts(items):
 
 def against_model(items):
     """Counts of agreeing and differing records; shows the smallest that
-    differs. The Rust is to panic exactly where a constant division stays."""
+    differs. The Rust is to panic exactly where a constant division is by 0 or
+    of -2^63 by -1."""
     counts, smallest = Counter(), None
     for part in parts(items):
         for record, (answer, same) in zip(part, both([r.hex() for r in part])):
             model = Model(from_bytes(record))
             expected = to_bytes(model.rewrite()).hex()
-            agree = check(record) is None and answer == ("panic" if model.stuck else expected)
+            agree = check(record) is None and answer == ("panic" if model.panics else expected)
             counts["asked"] += same is not None
             if agree and same is not False:
-                counts["panic" if model.stuck else "same"] += 1
+                counts["panic" if model.panics else "same"] += 1
+                counts["least"] += model.seen["div wraps"] > 0
                 continue
             counts["failed"] += 1
             if smallest is None or len(record) < len(smallest[0]):
@@ -116,20 +121,23 @@ def against_model(items):
         print("model", smallest[1], "Rust ", smallest[2], sep="\n")
         if smallest[3] is False:
             print("the unaltered Rust gives another answer")
-    print("%d rewritings the same, %d with a panic where the division stays"
-          % (counts["same"], counts["panic"]))
+    print("%d rewritings the same, %d with a panic on a constant division, %d of them with -2^63 by -1"
+          % (counts["same"], counts["panic"], counts["least"]))
     return counts["same"] + counts["panic"], counts["failed"]
 
 
 def main():
     p = argparse.ArgumentParser()
     p.add_argument("--random", type=int)
+    p.add_argument("--divisions", type=int)
     p.add_argument("--seed", type=int, default=1)
     p.add_argument("--exhaustive", action="store_true")
     a = p.parse_args()
     build()
     if a.random is not None:
         passed, failed = against_model(records(a.seed, a.random))
+    elif a.divisions is not None:
+        passed, failed = against_model(divisions(a.seed, a.divisions))
     elif a.exhaustive:
         passed, failed = map(sum, zip(against_model(operations()), against_model(short_blocks()),
                                       against_model(comparisons())))

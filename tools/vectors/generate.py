@@ -1,6 +1,6 @@
 """Random accepted records, the same for the same seed.
 
-Usage: generate.py [--seed S] [--count N] [--limits]   a record in hex per line
+Usage: generate.py [--seed S] [--count N] [--limits | --divisions]   a record in hex per line
 """
 
 import argparse
@@ -12,6 +12,7 @@ from record import (BOOL, CHAR, FLOAT, INT, POINTER, Block, Function, Instr,
 
 SMALL = [0, 0, 0, 1, 1, 1, 2, 2, -1]
 INTS = [3, 7, -7, -2, 1 << 32, (1 << 62) + 1, (1 << 63) - 1, -(1 << 63), 1 - (1 << 63)]
+EDGES = [-(1 << 63), -(1 << 63), -(1 << 63), -1, -1, -1, 1, 0, (1 << 63) - 1]
 FLOATS = [0, 1 << 63, 0x3FF0000000000000, 0x3FF8000000000000, 0x7FF0000000000000,
           0x7FF8000000000000, 0xFFF8000000000001, 0x7FF0000000000001, 1]
 CHARS = [0, 0x61, 0x7F, 0xD7FF, 0xE000, 0xFFFF, 0x10FFFF]
@@ -34,13 +35,15 @@ PROFILES = [
     (2, [INT, FLOAT, BOOL, FLOAT, INT], [0, 0, 0, 0, 1, 13, 20, 67, 68, 69]),
     (3, [INT, BOOL, INT, FLOAT, CHAR, 0x10], sorted(COUNTS)),
 ]
+DIVISIONS = [INT, INT, INT, BOOL, INT], [0, 0, 1, 2, 3, 4, 4, 4, 4, 4, 13, 13, 68]
 
 EXCHANGED = {6: 7, 7: 6, 8: 9, 9: 8}  # the comparison with its arguments swapped
 
 
 class Generator:
-    def __init__(self, rng):
+    def __init__(self, rng, small=SMALL):
         self.rng = rng
+        self.small = small  # the ints that most literals are drawn from
 
     def literal(self, type_):
         """A literal kind and literal that fit a type, none for a pointer."""
@@ -48,7 +51,7 @@ class Generator:
         if type_ == FLOAT and rng.random() < 0.6:
             return INT, unsigned(rng.choice(SMALL))
         if type_ == INT:
-            few = SMALL if rng.random() < 0.7 else INTS
+            few = self.small if rng.random() < 0.7 else INTS
             value = rng.choice(few) if rng.random() < 0.95 else rng.getrandbits(64)
             return INT, unsigned(value)
         if type_ == BOOL:
@@ -177,9 +180,11 @@ class Generator:
         self.f = Function(nargs, list(zip(chosen, texts)))
 
     def function(self):
-        rng = self.rng
         weights = [p[0] for p in PROFILES]
-        _, types, codes = rng.choices(PROFILES, weights)[0]
+        return self.of_profile(*self.rng.choices(PROFILES, weights)[0][1:])
+
+    def of_profile(self, types, codes):
+        rng = self.rng
         count = rng.randint(3, 8) if rng.random() < 0.9 else rng.randint(0, 18)
         nargs = rng.randint(0, min(count, 3 if rng.random() < 0.8 else 16))
         if rng.random() < 0.01:
@@ -223,6 +228,13 @@ def records(seed, count):
         yield accepted(g.function())
 
 
+def divisions(seed, count):
+    """Functions of divisions, mostly of and by the ints at the edges."""
+    g = Generator(random.Random(seed), EDGES)
+    for _ in range(count):
+        yield accepted(g.of_profile(*DIVISIONS))
+
+
 def limits(seed):
     for f in Generator(random.Random(seed)).limits():
         yield accepted(f)
@@ -233,8 +245,10 @@ def main():
     p.add_argument("--seed", type=int, default=1)
     p.add_argument("--count", type=int, default=10)
     p.add_argument("--limits", action="store_true")
+    p.add_argument("--divisions", action="store_true")
     a = p.parse_args()
-    for record in limits(a.seed) if a.limits else records(a.seed, a.count):
+    made = divisions if a.divisions else records
+    for record in limits(a.seed) if a.limits else made(a.seed, a.count):
         print(record.hex())
 
 

@@ -1,7 +1,7 @@
 """Document 01's numbering as a program: check, then the rewriting.
 
-Follows the steps of document 01 and Point 2 of document 02, and shares no code
-with the Rust. Value numbers are ints; a value is a tuple with a tag first.
+Follows the steps of document 01 and Points 2 and 4 of document 02, and shares no
+code with the Rust. Value numbers are ints; a value is a tuple with a tag first.
 """
 
 import sys
@@ -52,7 +52,7 @@ class Model:
         self.f = function
         self.names = list(function.names)
         self.seen = Counter()
-        self.stuck = False  # a constant division was met that does not fold
+        self.panics = False  # a constant division was met on which the Rust panics
 
     def rewrite(self):
         blocks = [self.block(b) for b in self.f.blocks]
@@ -172,9 +172,9 @@ class Model:
             return "eq of a number with itself", ("bool", 1)
         if all(known) and op != PTRADD:
             a = [v[1] for v in known]
-            if op == DIV and (a[1] == 0 or a == [LEAST, -1]):
-                self.stuck = True
-                return "div that stays", (op, *operands)
+            self.panics |= op == DIV and (a[1] == 0 or a == [LEAST, -1])
+            if op == DIV and a[1] == 0:
+                return "div by 0", (op, *operands)
             if op in (AND, OR, NOT):
                 a = [bool(v) for v in a]
             folded = FOLD[op](*a)

@@ -1,8 +1,11 @@
 """Chooses the records of vectors/rewritings.txt and writes them with the
 altered Rust's rewritings: 100 on which the unaltered Rust writes otherwise, 297
-more random ones, then the three at the limits.
+more random ones, then the three at the limits. Or those of
+vectors/quotients.txt, with -2^63 by -1 of known operands, on which the Rust
+panics, with the rewritings of model.py.
 
 Usage: store.py > vectors/rewritings.txt
+       store.py --quotients > vectors/quotients.txt
 
 Of each thing worth showing FEW candidates are taken, the rarest first, and
 then the first others; for the 100 FEW_EXCHANGED, and then the first others in
@@ -11,15 +14,17 @@ ones on which the Rust panics are left out.
 """
 
 import itertools
+import sys
 from collections import Counter
 
 from compare import build, oracle
-from generate import limits, records
+from generate import divisions, limits, records
 from model import Model
-from record import BOOL, FLOAT, INT, from_bytes
+from record import BOOL, FLOAT, INT, from_bytes, to_bytes
 
 SEED, CANDIDATES, LONGEST = 1, 20000, 180
 EXCHANGED, FEW_EXCHANGED, COUNT, FEW = 100, 3, 297, 6
+QUOTIENTS = 100
 
 
 def of_exchange(seen):
@@ -112,9 +117,24 @@ def at_limits():
             return pairs
 
 
+def of_least(record):
+    """Whether -2^63 by -1 is met, with both known."""
+    model = Model(from_bytes(record))
+    model.rewrite()
+    return model.seen["div wraps"] > 0
+
+
+def quotients():
+    """Pairs of record and rewriting in hex, the latter by the model."""
+    short = (r for r in divisions(SEED, CANDIDATES) if len(r) <= LONGEST)
+    chosen = list(itertools.islice(filter(of_least, short), QUOTIENTS))
+    assert set(oracle([r.hex() for r in chosen])) == {"panic"}
+    return [(r.hex(), to_bytes(Model(from_bytes(r)).rewrite()).hex()) for r in chosen]
+
+
 def main():
     build()
-    for pair in choose() + at_limits():
+    for pair in quotients() if sys.argv[1:] == ["--quotients"] else choose() + at_limits():
         print(*pair)
 
 

@@ -1,16 +1,40 @@
 -- Laws of the operations on values: what a result that is not unset tells of the operands, and which operators commute.
 use Prim.Native.Nat.{ℕ}
 use mathlib.Core.Path.{_≡_, refl, sym, ap, subst, subst₂}
-use mathlib.Core.Logic.{_≢_}
-use mathlib.Core.Bool.{Bool, true, false, and-comm, or-comm}
+use mathlib.Core.Logic.{_≢_, _↔_}
+use mathlib.Core.Bool.{Bool, true, false, cond, and-comm, or-comm}
 use mathlib.Core.Option.{Option, none, some}
 use lib.Dec.{eqb}
 use borrow.Author.Tests.{eqb-true, eqb-false, eq-eqb, ne-eqb}
 use Rattle.arith.specs.declared.Two.{Two}
 use Rattle.arith.specs.declared.Two.the-variants.{Add, Mul, Eq, Lt, Gt, Le, Ge, And, Or, PtrAdd}
 use Rattle.arith.specs.Value.{Val, int, float, literal, char, bool, pointer}
-use Rattle.arith.specs.Operation.{Result, ok, unset, asInt, asBool, ints, bools, with-one, with-both, shift, apply2}
+use Rattle.arith.specs.Word.{divW}
+use Rattle.arith.specs.Operation.{Cause, by-zero, Result, ok, stops, unset, asInt, asBool, ints, bools, with-one, with-both, divide, shift, apply2}
+use Rattle.arith.proofs.Clash.{clash}
 use Rattle.arith.proofs.Words.{addW-comm, mulW-comm}
+
+-- ---- a division stops by zero, and by nothing else
+pub divide-others : (a b : ℕ) → b ≢ 0 → divide a b ≡ ok (int (divW a b))
+unfolding divide
+divide-others a b h = rw (ne-eqb b 0 h) refl
+
+pub divide-stops : (a b : ℕ) (c : Cause) → divide a b ≡ stops c ↔ (b ≡ 0)
+unfolding divide
+divide-stops a b by-zero = (λ e. go (eqb b 0) refl e, λ e. rw (eq-eqb b 0 e) refl)
+  where
+    go : (t : Bool) → eqb b 0 ≡ t → cond t (stops by-zero) (ok (int (divW a b))) ≡ stops by-zero → b ≡ 0
+    go true e h = eqb-true b 0 e
+    go false e h = clash (cc h)
+
+-- P of a division, if it holds of the stop and of the quotient
+pub divide-either : (P : Result → Type 0) (a b : ℕ) → P (stops by-zero) → P (ok (int (divW a b))) → P (divide a b)
+unfolding divide
+divide-either P a b h k = go (eqb b 0)
+  where
+    go : (t : Bool) → P (cond t (stops by-zero) (ok (int (divW a b))))
+    go true = h
+    go false = k
 
 -- ---- a result that is not unset: all operands are set
 pub with-one-set : {A : Type 0} (x : Option A) (f : A → Result) → with-one x f ≢ unset → (a : A) × (x ≡ some a)

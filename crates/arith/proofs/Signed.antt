@@ -1,5 +1,5 @@
--- What words mean as signed integers: their order and quotient are those of ℤ, by which the toolchain states i64, and their sum,
--- difference and product are those of ℤ modulo 2^64. Each is proved of integers in range, and carried over to words.
+-- What words mean as signed integers: their order is that of ℤ, by which the toolchain states i64, and their sum, difference, product and
+-- quotient are those of ℤ modulo 2^64. Each is proved of integers in range, and carried over to words.
 use Prim.Native.Nat.{ℕ, zero, suc, _+_, _*_, _-_, _/_, _%_, _<_, _≤_}
 use mathlib.Core.Path.{_≡_, refl, sym, ap, ap₂, _∙_}
 use mathlib.Core.Logic.{_≢_}
@@ -62,6 +62,15 @@ pub leW-signed : (a b : ℕ) → a < W → b < W → leW a b ≡ leZ (toZ w64 a)
 leW-signed a b h k = ap not (ltW-signed b a k h) ∙ le-of (toZ w64 a) (toZ w64 b)
 
 -- ---- the quotient, toward zero
+-- the word of an integer, modulo 2^64
+abbrev pub word-of : ℤ → ℕ
+word-of (pos n) = n % W
+word-of (negsuc n) = minus-one - n % W
+
+word-in-range : (x : ℤ) → mag x < least → word-of x ≡ ofZ w64 x
+word-in-range (pos n) h = omega arith
+word-in-range (negsuc n) h = omega arith
+
 positive : (n : ℕ) → n < least → negative n ≡ false
 positive n h = lt-leb least n h
 
@@ -71,25 +80,24 @@ below-zero n h = le-leb least (W - suc n) (omega arith)
 size-negative : (n : ℕ) → n < least → W - (W - suc n) ≡ suc n
 size-negative n h = omega arith
 
--- the word of a quotient of sizes, and of one with a minus
-word-of-size : (q : ℕ) → q ≤ least → q % W ≡ q
-word-of-size q h = omega arith
-
-word-of-minus : (q : ℕ) → q ≤ least → (W - q) % W ≡ ofZ w64 (negℤ (pos q))
+-- the word of a quotient of sizes with a minus
+word-of-minus : (q : ℕ) → q ≤ least → (W - q) % W ≡ word-of (negℤ (pos q))
 word-of-minus zero h = refl
 word-of-minus (suc q) h = omega arith
 
-quot-of : (y z : ℤ) → mag y < least → mag z < least → divW (ofZ w64 y) (ofZ w64 z) ≡ ofZ w64 (quotZ y z)
+quot-of : (y z : ℤ) → mag y < least → mag z < least → divW (ofZ w64 y) (ofZ w64 z) ≡ word-of (quotZ y z)
 unfolding divW xor
-quot-of (pos a) (pos b) h k =
-    rw (positive a h, positive b k) (word-of-size (a / b) (let l = div-le-self a b in omega arith))
+quot-of (pos a) (pos b) h k = rw (positive a h, positive b k) refl
 quot-of (pos a) (negsuc b) h k =
     rw (positive a h, below-zero b k) (rw (size-negative b k) (word-of-minus (a / suc b) (let l = div-le-self a (suc b) in omega arith)))
 quot-of (negsuc a) (pos b) h k =
     rw (below-zero a h, positive b k) (rw (size-negative a h) (word-of-minus (suc a / b) (let l = div-le-self (suc a) b in omega arith)))
-quot-of (negsuc a) (negsuc b) h k =
-    rw (below-zero a h, below-zero b k)
-    (rw (size-negative a h, size-negative b k) (word-of-size (suc a / suc b) (let l = div-le-self (suc a) (suc b) in omega arith)))
+quot-of (negsuc a) (negsuc b) h k = rw (below-zero a h, below-zero b k) (rw (size-negative a h, size-negative b k) refl)
+
+-- "overflow in arithmetic follows two's complement, division included" (document 02, Point 4); by 0, which stops, it is 0 on both sides
+pub divW-wraps : (a b : ℕ) → a < W → b < W → divW a b ≡ word-of (quotZ (toZ w64 a) (toZ w64 b))
+divW-wraps a b h k =
+    ap₂ divW (of-signed a h) (of-signed b k) ∙ quot-of (toZ w64 a) (toZ w64 b) (mag-signed a h) (mag-signed b k)
 
 minus-small : (q : ℕ) → q ≤ least → mag (negℤ (pos q)) < least
 minus-small zero h = omega arith
@@ -112,22 +120,16 @@ quot-fits (negsuc a) (pos b) h no-overflow = minus-small (suc a / b) (let l = di
 quot-fits (negsuc a) (negsuc b) h no-overflow =
     quotient-small a b h (λ p q. no-overflow (omega arith) (omega arith))
 
--- of -2^63 by -1, which stops, the quotient is 2^63, no word's; by 0, which stops too, it is 0 on both sides
+-- so it is the quotient itself, but for that of -2^63 by -1, which is 2^63, no word's
 pub divW-signed :
     (a b : ℕ) → a < W → b < W → (a ≡ least → b ≢ minus-one) → toZ w64 (divW a b) ≡ quotZ (toZ w64 a) (toZ w64 b)
 divW-signed a b h k no-overflow =
     let y = toZ w64 a in
     let z = toZ w64 b in
     let small = quot-fits y z (mag-signed a h) (λ p q. no-overflow (of-signed a h ∙ p) (of-signed b k ∙ q)) in
-    ap (toZ w64) (ap₂ divW (of-signed a h) (of-signed b k) ∙ quot-of y z (mag-signed a h) (mag-signed b k))
-    ∙ toZ-ofZ w64 (quotZ y z) (record { sfits = small })
+    ap (toZ w64) (divW-wraps a b h k ∙ word-in-range (quotZ y z) small) ∙ toZ-ofZ w64 (quotZ y z) (record { sfits = small })
 
--- ---- addition, subtraction and multiplication are those of ℤ modulo 2^64
--- the word of an integer, modulo 2^64
-abbrev pub word-of : ℤ → ℕ
-word-of (pos n) = n % W
-word-of (negsuc n) = minus-one - n % W
-
+-- ---- addition, subtraction and multiplication
 difference : (a b : ℕ) → a < W → suc b < W → (a + (W - suc b)) % W ≡ word-of (subℕ a (suc b))
 difference a b h k = go (ltb a (suc b)) refl
   where

@@ -1,5 +1,5 @@
 -- The operations by example, the edges of the signed ints among them.
-use Prim.Native.Nat.{ℕ, _-_}
+use Prim.Native.Nat.{ℕ, _+_, _-_}
 use mathlib.Core.Path.{_≡_, refl}
 use mathlib.Core.Bool.{Bool, true, false}
 use mathlib.Core.List.{List, [], _∷_, map}
@@ -9,7 +9,7 @@ use Rattle.arith.specs.declared.Two.{Two}
 use Rattle.arith.specs.declared.Two.the-variants.{Add, Sub, Mul, Div, Eq, Lt, Gt, Le, Ge, And, Or, PtrAdd}
 use Rattle.arith.specs.Word.{W, least, minus-one}
 use Rattle.arith.specs.Value.{int, float, literal, char, bool, pointer, is-pointer, scalar, has-type}
-use Rattle.arith.specs.Operation.{by-zero, overflow, Result, ok, stops, unset, apply1, apply2, two, eval}
+use Rattle.arith.specs.Operation.{by-zero, Result, ok, stops, unset, apply1, apply2, two, eval}
 use Rattle.arith.specs.Code.{code1, code2, ones, twos}
 use Rattle.arith.specs.Opened.{all-of-arith}
 
@@ -36,14 +36,29 @@ pub products :
 unfolding all-of-arith
 products = refl
 
--- toward zero; by zero and of -2^63 by -1 stop
+-- toward zero
 pub quotients :
-    map (on-ints Div)
-    ((7, 2) ∷ (minus 7, 2) ∷ (7, minus 2) ∷ (minus 7, minus 2) ∷ (least, 1) ∷ (least, minus 2) ∷ (7, 0) ∷ (least, minus-one) ∷ []) ≡
-    ok (int 3) ∷ ok (int (minus 3)) ∷ ok (int (minus 3)) ∷ ok (int 3) ∷ ok (int least) ∷ ok (int 0x4000_0000_0000_0000) ∷
-    stops by-zero ∷ stops overflow ∷ []
+    map (on-ints Div) ((7, 2) ∷ (minus 7, 2) ∷ (7, minus 2) ∷ (minus 7, minus 2) ∷ (0, minus 7) ∷ (2, 7) ∷ (minus 2, 7) ∷ []) ≡
+    ok (int 3) ∷ ok (int (minus 3)) ∷ ok (int (minus 3)) ∷ ok (int 3) ∷ ok (int 0) ∷ ok (int 0) ∷ ok (int 0) ∷ []
 unfolding all-of-arith
 quotients = refl
+
+-- -2^63 by -1 is -2^63, by 1 too, and by 2, -2 and itself as any other; -2^63+1 by -1 is 2^63-1, and that by -1 is -2^63+1
+pub quotients-at-the-edge :
+    map (on-ints Div)
+    ((least, minus-one) ∷ (least, 1) ∷ (least, 2) ∷ (least, minus 2) ∷ (least, least) ∷ (minus-one, least) ∷ (least + 1, minus-one) ∷
+    (least - 1, minus-one) ∷ []) ≡
+    ok (int least) ∷ ok (int least) ∷ ok (int 0xC000_0000_0000_0000) ∷ ok (int 0x4000_0000_0000_0000) ∷ ok (int 1) ∷ ok (int 0) ∷
+    ok (int 0x7FFF_FFFF_FFFF_FFFF) ∷ ok (int 0x8000_0000_0000_0001) ∷ []
+unfolding all-of-arith
+quotients-at-the-edge = refl
+
+-- by zero, whatever is divided
+pub quotients-by-zero :
+    map (on-ints Div) ((7, 0) ∷ (0, 0) ∷ (minus-one, 0) ∷ (least, 0) ∷ []) ≡
+    stops by-zero ∷ stops by-zero ∷ stops by-zero ∷ stops by-zero ∷ []
+unfolding all-of-arith
+quotients-by-zero = refl
 
 -- of -1 and 0, 0 and -1, 5 and 5
 abbrev pub compared : Two → List Result

@@ -8,12 +8,12 @@ use Rattle.arith.specs.declared.One.{One}
 use Rattle.arith.specs.declared.One.the-variants.{Not, Id}
 use Rattle.arith.specs.declared.Two.{Two}
 use Rattle.arith.specs.declared.Two.the-variants.{Add, Sub, Mul, Div, Eq, Lt, Gt, Le, Ge, And, Or, PtrAdd}
-use Rattle.arith.specs.Word.{addW, subW, mulW, divW, ltW, leW, least, minus-one}
+use Rattle.arith.specs.Word.{addW, subW, mulW, divW, ltW, leW}
 use Rattle.arith.specs.Value.{Val, int, float, literal, char, bool, pointer}
 
--- why a division stops
+-- why a division stops: "by id and cause", of which there is one
 pub data Cause : Type 0 where
-  by-zero overflow : Cause
+  by-zero : Cause
 
 -- a value, a division that stops, or nothing because an operand is not set
 pub data Result : Type 0 where
@@ -54,9 +54,9 @@ abbrev pub bools : Val → Val → (Bool → Bool → Result) → Result
 bools x y f = with-both (asBool x) (asBool y) f
 
 -- ---- the operations
--- "div by 0 or of -2^63 by -1 stops there"
+-- "div by 0 .. stops there", and no other division: "-2^63 div -1 is -2^63 in the machine, without a stop" (document 02, Point 4)
 unfoldable pub divide : ℕ → ℕ → Result
-divide a b = cond (eqb b 0) (stops by-zero) (cond (eqb a least && eqb b minus-one) (stops overflow) (ok (int (divW a b))))
+divide a b = cond (eqb b 0) (stops by-zero) (ok (int (divW a b)))
 
 -- "a pointer is a base and a wrapping offset"
 unfoldable pub shift : Val → ℕ → Result

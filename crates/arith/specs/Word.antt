@@ -1,4 +1,5 @@
--- "add, sub, mul modulo 2^64, signed; div truncates (-7 by 2 is -3)": the one arithmetic on ints, which folding and the machine share.
+-- "add, sub, mul modulo 2^64, signed; div truncates (-7 by 2 is -3)", and "overflow in arithmetic follows two's complement, division
+-- included" (document 02, Point 4): the one arithmetic on ints, which folding and the machine share.
 -- An int is its word: a number below 2^64, in two's complement.
 use Prim.Native.Nat.{ℕ, _+_, _*_, _-_, _/_, _%_}
 use mathlib.Core.Bool.{Bool, not, cond, xor}
@@ -32,7 +33,7 @@ negative a = leb least a
 abbrev pub size : ℕ → ℕ
 size a = cond (negative a) (W - a) a
 
--- the quotient of the sizes, with its sign; the divisor is not 0
+-- the quotient of the sizes, with its sign, modulo 2^64: that of -2^63 by -1, which is 2^63, is -2^63; the divisor is not 0
 unfoldable pub divW : ℕ → ℕ → ℕ
 unfolding xor
 divW a b = let q = size a / size b in cond (xor (negative a) (negative b)) ((W - q) % W) (q % W)

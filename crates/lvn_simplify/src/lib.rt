@@ -27,7 +27,7 @@ pub enum Known {
 
 // ---- folds
 
-// "div by 0, or of -2^63 by -1: no fold, the division stays".
+// "div by 0 ..: no fold, the division stays".
 pub fn fold_quotient(x: u64, y: u64) -> Value
     ensures { λ r. ⌜ expr-of r ≡ folded (divide x y) ⌝ }
 {

@@ -9,8 +9,8 @@ use Rattle.arith.specs.Value.{Val, int, bool, pointer}
 use Rattle.arith.specs.Operation.{by-zero}
 use Rattle.record.specs.Record.{nm, Placed, Record, Function, function, plain, wide}
 use Rattle.record.specs.Reader.{Res, got, fault}
-use Rattle.record.specs.Samples.{division, division-rewritten, call, call-rewritten, loop, loop-rewritten, walk, comparison, comparison-rewritten}
-use Rattle.arith.specs.Word.{W, minus-one}
+use Rattle.record.specs.Samples.{division, division-rewritten, call, call-rewritten, loop, loop-rewritten, walk, comparison, comparison-rewritten, quotient, quotient-rewritten}
+use Rattle.arith.specs.Word.{W, least, minus-one}
 use Rattle.record.specs.Typing.{accept}
 use Rattle.machine.specs.Machine.{Store, Answer, value, go-on, halt, Event, at-end, at-ret, at-halt, at-unset, at-division, Place, before, stopped, Run, run}
 use Rattle.machine.specs.Opened.{all-of-machine}
@@ -122,8 +122,29 @@ abbrev pub compare-alike : List Case
 compare-alike =
     compares 2 5 false false ++ (compares 5 5 false true ++ (compares 5 2 true true ++ compares minus-one 0 false false))
 
+-- div a b and, of known operands, div l m, which the rewriting has as a const: of -2^63 by -1 both pass on
+abbrev pub passes-on : List Case
+passes-on =
+    let start : List (Option Val) = some (int least) ∷ some (int minus-one) ∷ [] in
+    let held : List (Option Val) = some (int least) ∷ some (int minus-one) ∷ some (int least) ∷ some (int least) ∷ some (int minus-one) ∷ [] in
+    let es : List Event = event 2 68 0 (int least ∷ []) ∷ event 6 68 0 (int least ∷ []) ∷ [] in
+    let end : List (Option Val) → ℕ → Summary = shows (stopped at-end 1 0) (0 ∷ []) es [] in
+    (quotient, start, go-on ∷ go-on ∷ [], 2, end held 6) ∷
+    (quotient-rewritten, start, go-on ∷ go-on ∷ [], 2, end (held ++ (some (int least) ∷ [])) 7) ∷
+    []
+
+-- and of -2^63 by 0 both stop at the first of them
+abbrev pub stops-by-zero : List Case
+stops-by-zero =
+    let start : List (Option Val) = some (int least) ∷ some (int 0) ∷ [] in
+    let end : List (Option Val) → Summary = λ vs. shows (stopped (at-division 1 by-zero) 0 0) [] [] (go-on ∷ []) vs 1 in
+    (quotient, start, go-on ∷ [], 2, end (start ++ (none ∷ none ∷ none ∷ []))) ∷
+    (quotient-rewritten, start, go-on ∷ [], 2, end (start ++ (none ∷ none ∷ none ∷ none ∷ []))) ∷
+    []
+
 abbrev pub cases : List Case
-cases = stops-in-division ++ (halts ++ (jumps-back ++ (walks ++ (unset-stops ++ compare-alike))))
+cases =
+    stops-in-division ++ (halts ++ (jumps-back ++ (walks ++ (unset-stops ++ (compare-alike ++ (passes-on ++ stops-by-zero))))))
 
 pub samples-run : map (λ c. runs (c .0) (c .1) (c .2) (c .3)) cases ≡ map (λ c. c .4) cases
 unfolding all-of-machine

@@ -79,7 +79,7 @@ read-all σ (x ∷ xs) = read-cons (σ x) (read-all σ xs)
 abbrev pub event-of : Instr → List Val → Event
 event-of i vs = record { id = i .id; code = i .code; callee = i .callee; args = vs }
 
--- "div by 0 or of -2^63 by -1 stops there, by id and cause"; "reading nothing stops as unset"
+-- "div by 0 .. stops there, by id and cause"; "reading nothing stops as unset"
 unfoldable pub finish : Instr → Mach → Result → Step
 finish i m (ok v) = goes (assign m (i .dest) v)
 finish i m (stops c) = ends (at-division (i .id) c) m

@@ -1,11 +1,11 @@
 -- Runs of small functions, computed: no block at all, events with their callee, answers of every type, what is read first, and every end.
-use Prim.Native.Nat.{ℕ}
+use Prim.Native.Nat.{ℕ, _+_, _-_}
 use mathlib.Core.Path.{_≡_, refl}
 use mathlib.Core.Bool.{Bool, true, false}
 use mathlib.Core.List.{List, [], _∷_, _++_, map}
 use mathlib.Core.Option.{Option, none, some}
 use lib.ListN.{length}
-use Rattle.arith.specs.Operation.{by-zero, overflow}
+use Rattle.arith.specs.Operation.{by-zero}
 use Rattle.arith.specs.Value.{Val, int, float, literal, char, bool, pointer}
 use Rattle.arith.specs.Word.{W, least, minus-one}
 use Rattle.record.specs.Record.{Instr, Function}
@@ -130,9 +130,9 @@ read-first =
     unset (chooses 1 0 0 0) ∷
     unset (gives 1 1 4 (0 ∷ 1 ∷ [])) ∷
     unset (gives 1 1 4 (1 ∷ 0 ∷ [])) ∷
-    -- 7 by 0, and -2^63 by -1: by id and cause
+    -- 7 by 0, and -2^63 by 0: by id and cause
     stops-run (some (int 7) ∷ some (int 0) ∷ []) (gives 1 0 4 (0 ∷ 1 ∷ [])) (go-on ∷ []) (at-division 1 by-zero) [] (go-on ∷ []) ∷
-    stops-run (some (int least) ∷ some (int minus-one) ∷ []) (gives 9 0 4 (0 ∷ 1 ∷ [])) (go-on ∷ []) (at-division 9 overflow) [] (go-on ∷ []) ∷
+    stops-run (some (int least) ∷ some (int 0) ∷ []) (gives 9 0 4 (0 ∷ 1 ∷ [])) (go-on ∷ []) (at-division 9 by-zero) [] (go-on ∷ []) ∷
     []
 
 -- ---- an int literal in a float: f = 7; print f; g = id f; f = call 3 (g), answered by "that literal" or by the float of the same number
@@ -154,9 +154,18 @@ shifted o n sum =
     let vs : Option Val → List (Option Val) = λ q. some (pointer 0x11 3 o) ∷ q ∷ some (int n) ∷ [] in
     computes (0x11 ∷ 0x11 ∷ 0x00 ∷ []) (gives 1 1 14 (0 ∷ 2 ∷ []) ∷ []) (vs none) (vs (some (pointer 0x11 3 sum))) 1
 
+-- x = div a b, which passes on
+abbrev pub divided : ℕ → ℕ → ℕ → Case
+divided a b q =
+    let vs : Option Val → List (Option Val) = λ x. some (int a) ∷ some (int b) ∷ x ∷ [] in
+    computes (0x00 ∷ 0x00 ∷ 0x00 ∷ []) (gives 1 2 4 (0 ∷ 1 ∷ []) ∷ []) (vs none) (vs (some (int q))) 1
+
 abbrev pub computed : List Case
 computed =
     shifted minus-one 2 1 ∷ shifted 0 minus-one minus-one ∷ shifted least least 0 ∷ shifted 5 6 11 ∷
+    -- -2^63 by -1, by 1, by 2; -2^63+1 by -1; 7 by -2
+    divided least minus-one least ∷ divided least 1 least ∷ divided least 2 0xC000_0000_0000_0000 ∷
+    divided (least + 1) minus-one (least - 1) ∷ divided 7 (W - 2) (W - 3) ∷
     -- a literal of each kind
     computes (0x00 ∷ 0x01 ∷ 0x02 ∷ 0x02 ∷ 0x03 ∷ []) (set 1 0 0 7 ∷ set 2 1 1 1 ∷ set 3 2 0 7 ∷ set 4 3 2 7 ∷ set 5 4 3 7 ∷ []) []
     (some (int 7) ∷ some (bool true) ∷ some (literal 7) ∷ some (float 7) ∷ some (char 7) ∷ []) 5 ∷

@@ -17,6 +17,8 @@ pub mod Output
 pub mod Differ
 pub mod Ways
 pub mod Ahead
+pub mod Bare
 pub mod Greater
 pub mod NoGreater
 pub mod Shared
+pub mod Quotient

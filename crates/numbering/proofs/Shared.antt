@@ -26,7 +26,8 @@ use Rattle.numbering.specs.Number.{reads, make-val, val-to-instr, rewrit
 use Rattle.numbering.specs.Shared.{behind, Exchanged, gt-lt, lt-gt, ge-le, le-ge, Have, SharesNumber}
 use Rattle.numbering.proofs.Overwritten.{Overwritten, kept, moved, overwritten}
 use Rattle.numbering.proofs.Given.{Numbers, start-numbers, behind-numbers}
-use Rattle.numbering.proofs.Greater.{both-seen, greater-simplified, greater-equal-simplified}
+use Rattle.numbering.proofs.Bare.{both-seen}
+use Rattle.numbering.proofs.Greater.{greater-simplified, greater-equal-simplified}
 
 -- ---- the search for a value, f and g being tables that agree below the search's end
 -- what is found stays found in a longer table

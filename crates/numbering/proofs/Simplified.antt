@@ -9,10 +9,11 @@ use Rattle.arith.specs.declared.One.{One}
 use Rattle.arith.specs.declared.One.the-variants.{Not, Id}
 use Rattle.arith.specs.declared.Two.{Two}
 use Rattle.arith.specs.declared.Two.the-variants.{Add, Sub, Mul, Div, Eq, Lt, Gt, Le, Ge, And, Or, PtrAdd}
-use Rattle.arith.specs.Word.{W, addW, subW, mulW, divW, ltW, leW, least, minus-one}
+use Rattle.arith.specs.Word.{W, addW, subW, mulW, divW, ltW, leW}
 use Rattle.arith.specs.Value.{Val, int, float, literal, char, bool, pointer}
-use Rattle.arith.specs.Operation.{Result, ok, stops, unset, by-zero, overflow, asInt, asBool, with-both, with-one, divide, shift, apply1, apply2, Expr, constant, one, two}
+use Rattle.arith.specs.Operation.{Result, ok, stops, unset, asInt, asBool, with-both, with-one, divide, shift, apply1, apply2, Expr, constant, one, two}
 use Rattle.arith.proofs.Words.{addW-word, subW-word, mulW-word, divW-word}
+use Rattle.arith.proofs.Operation.{divide-either}
 use Rattle.numbering.specs.declared.ValNum.{ValNum}
 use Rattle.numbering.specs.State.{State, known-value, known-expr, known}
 use Rattle.numbering.specs.Simplify.{folded, fold1, fold2, is-int, is-bool, id-of, gives, absorbs, identity, ordered, first, simplify1, simplify2, simplify}
@@ -92,15 +93,8 @@ module _ (Q : Expr ValNum → Type 0) (closed : Closed (λ v. Q (constant v))) w
   with-one-ok none f h = tt
   with-one-ok (some x) f h = h x
 
-  cond-ok : (b : Bool) (x y : Result) → ResultOk x → ResultOk y → ResultOk (cond b x y)
-  cond-ok true x y p q = p
-  cond-ok false x y p q = q
-
   divide-ok : (a b : ℕ) → ResultOk (divide a b)
-  unfolding divide
-  divide-ok a b =
-      cond-ok (eqb b 0) (stops by-zero) _ tt
-      (cond-ok (eqb a least && eqb b minus-one) (stops overflow) (ok (int (divW a b))) tt (closed .ints (divW a b) (divW-word a b)))
+  divide-ok a b = divide-either ResultOk a b tt (closed .ints (divW a b) (divW-word a b))
 
   shift-ok : (x : Val) (k : ℕ) → ResultOk (shift x k)
   unfolding shift

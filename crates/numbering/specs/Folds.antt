@@ -1,5 +1,5 @@
 -- simplify by example: every fold, every identity and every order of operands.
-use Prim.Native.Nat.{ℕ}
+use Prim.Native.Nat.{ℕ, _+_, _-_}
 use mathlib.Core.Path.{_≡_, refl}
 use mathlib.Core.Bool.{true, false}
 use mathlib.Core.List.{List, [], _∷_, map}
@@ -8,7 +8,7 @@ use lib.ListN.{getD}
 use Rattle.arith.specs.declared.One.the-variants.{Not, Id}
 use Rattle.arith.specs.declared.Two.{Two}
 use Rattle.arith.specs.declared.Two.the-variants.{Add, Sub, Mul, Div, Eq, Lt, Gt, Le, Ge, And, Or, PtrAdd}
-use Rattle.arith.specs.Word.{least, minus-one}
+use Rattle.arith.specs.Word.{W, least, minus-one}
 use Rattle.arith.specs.Value.{int, bool, literal}
 use Rattle.arith.specs.Operation.{Expr, constant, one, two}
 use Rattle.numbering.specs.declared.ValNum.{ValNum}
@@ -16,7 +16,7 @@ use Rattle.numbering.specs.State.{vn, known-expr}
 use Rattle.numbering.specs.Simplify.{simplify}
 use Rattle.numbering.specs.Opened.{all-of-numbering}
 
--- the numbers 0 to 4 are known, and 5 to 7 are not, though 7 is an int literal in a float
+-- the numbers 5 to 7 are not known, though 7 is an int literal in a float; the others are
 abbrev pub values : List (Option (Expr ValNum))
 values =
     some (constant (int 0)) ∷
@@ -29,6 +29,9 @@ values =
     some (constant (literal 0)) ∷
     some (constant (int least)) ∷
     some (constant (int minus-one)) ∷
+    some (constant (int (least + 1))) ∷
+    some (constant (int 7)) ∷
+    some (constant (int (W - 2))) ∷
     []
 
 abbrev pub simplified : Expr ValNum → Expr ValNum
@@ -64,13 +67,20 @@ pub multiplies :
 unfolding all-of-numbering
 multiplies = refl
 
--- by 0, and of -2^63 by -1, the division stays
+-- by 0 the division stays, whatever is divided; where one operand is not known it stays too
 pub divides :
-    map (of-two Div) ((2, 1) ∷ (2, 0) ∷ (8, 9) ∷ (8, 2) ∷ (9, 2) ∷ (5, 1) ∷ (5, 5) ∷ (6, 5) ∷ []) ≡
-    constant (int 2) ∷ stays Div 2 0 ∷ stays Div 8 9 ∷ constant (int 0xC000_0000_0000_0000) ∷ constant (int 0) ∷ stays Div 5 1 ∷
+    map (of-two Div) ((2, 1) ∷ (9, 2) ∷ (2, 0) ∷ (0, 0) ∷ (8, 0) ∷ (5, 1) ∷ (5, 9) ∷ (8, 5) ∷ (5, 5) ∷ (6, 5) ∷ []) ≡
+    constant (int 2) ∷ constant (int 0) ∷ stays Div 2 0 ∷ stays Div 0 0 ∷ stays Div 8 0 ∷ stays Div 5 1 ∷ stays Div 5 9 ∷ stays Div 8 5 ∷
     stays Div 5 5 ∷ stays Div 6 5 ∷ []
 unfolding all-of-numbering
 divides = refl
+
+-- -2^63 by -1, by 1, by 2; -2^63+1 by -1; 7 by -2
+pub divides-at-the-edge :
+    map (of-two Div) ((8, 9) ∷ (8, 1) ∷ (8, 2) ∷ (10, 9) ∷ (11, 12) ∷ []) ≡
+    constant (int least) ∷ constant (int least) ∷ constant (int 0xC000_0000_0000_0000) ∷ constant (int (least - 1)) ∷ constant (int (W - 3)) ∷ []
+unfolding all-of-numbering
+divides-at-the-edge = refl
 
 -- one number with itself; both known
 pub equals :

@@ -15,6 +15,7 @@ pub mod Examples
 pub mod Folds
 pub mod Turns
 pub mod Swapped
+pub mod Quotients
 pub mod Entries
 pub mod Foreseen
 pub mod Parts

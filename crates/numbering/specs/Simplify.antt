@@ -12,7 +12,7 @@ use Rattle.arith.specs.Operation.{Result, ok, stops, unset, apply1, apply2, Exp
 use Rattle.numbering.specs.declared.ValNum.{ValNum}
 
 -- ---- folds: "both known"
--- "div by 0, or of -2^63 by -1: no fold, the division stays"
+-- "div by 0 ..: no fold, the division stays"; -2^63 by -1 folds like any other (document 02, Point 4)
 unfoldable pub folded : Result → Option (Expr ValNum)
 folded (ok v) = some (constant v)
 folded (stops c) = none

@@ -7,8 +7,8 @@ use mathlib.Core.Option.{Option, none, some}
 use Rattle.arith.specs.Value.{Val, int, char, bool}
 use Rattle.arith.specs.Operation.{by-zero}
 use Rattle.record.specs.Record.{Instr, Block, limits}
-use Rattle.record.specs.Samples.{division, call, loop}
-use Rattle.arith.specs.Word.{minus-one}
+use Rattle.record.specs.Samples.{division, call, loop, quotient}
+use Rattle.arith.specs.Word.{least, minus-one}
 use Rattle.record.specs.Hex.{hex}
 use Rattle.record.specs.Typing.{accept}
 use Rattle.numbering.specs.Number.{lvn}
@@ -44,6 +44,10 @@ call-case = from call (some (int 5) ∷ []) (value (bool true) ∷ go-on ∷ [])
 abbrev pub loop-case : Case
 loop-case = from loop (some (int 2) ∷ some (int minus-one) ∷ some (int 0) ∷ none ∷ []) (go-on ∷ go-on ∷ []) 4
 
+-- -2^63 by -1, of arguments and of known constants: the run passes on
+abbrev pub quotient-case : Case
+quotient-case = from quotient (some (int least) ∷ some (int minus-one) ∷ none ∷ none ∷ none ∷ []) (go-on ∷ go-on ∷ []) 2
+
 -- print a | print y, which is not set: the first block's runs are alike, and more is not said
 abbrev pub unset-later : ℕ → Case
 unset-later n =
@@ -51,10 +55,17 @@ unset-later n =
     (some (int 5) ∷ none ∷ []) (go-on ∷ go-on ∷ []) n
 
 -- ---- each meets every premise
-pub cases-alike : Instance c5-case × Instance division-case × Instance call-case × Instance loop-case × Instance (unset-later 1)
+pub cases-alike :
+    Instance c5-case × Instance division-case × Instance call-case × Instance loop-case × Instance quotient-case × Instance (unset-later 1)
 unfolding all-of-pairing
-cases-alike =
-    (instance c5-case tt, instance division-case tt, instance call-case tt, instance loop-case tt, instance (unset-later 1) tt)
+cases-alike = (
+  instance c5-case tt,
+  instance division-case tt,
+  instance call-case tt,
+  instance loop-case tt,
+  instance quotient-case tt,
+  instance (unset-later 1) tt,
+)
 
 pub unset-later-read : map (λ n. meets (unset-later n)) (0 ∷ 1 ∷ 2 ∷ 3 ∷ []) ≡ true ∷ true ∷ false ∷ false ∷ []
 unfolding all-of-pairing
@@ -69,7 +80,7 @@ abbrev alike-but : (Place → ℕ → Summary) → Place → ℕ → Place → �
 alike-but s p n q m = (s p n, s q m)
 
 pub cases-run :
-    map both-runs (c5-case ∷ division-case ∷ call-case ∷ loop-case ∷ []) ≡
+    map both-runs (c5-case ∷ division-case ∷ call-case ∷ loop-case ∷ quotient-case ∷ []) ≡
     alike-but (λ p n. shows p (0 ∷ []) (event 4 68 0 (int 5 ∷ []) ∷ []) [] (some (int 6) ∷ some (int 5) ∷ []) n)
     (stopped at-end 1 0) 4 (stopped at-end 1 0) 5 ∷
     alike-but (λ p n. shows p [] [] [] (some (int 0) ∷ some (int 7) ∷ []) n)
@@ -80,6 +91,10 @@ pub cases-run :
     (λ p n. shows p (0 ∷ 0 ∷ []) (event 2 68 0 (int 1 ∷ []) ∷ event 2 68 0 (int 0 ∷ []) ∷ event 5 66 0 (int 0 ∷ []) ∷ []) []
     (some (int 0) ∷ some (int minus-one) ∷ some (int 0) ∷ some (bool false) ∷ []) n)
     (stopped at-ret 1 0) 9 (stopped at-ret 1 0) 11 ∷
+    alike-but
+    (λ p n. shows p (0 ∷ []) (event 2 68 0 (int least ∷ []) ∷ event 6 68 0 (int least ∷ []) ∷ []) []
+    (some (int least) ∷ some (int minus-one) ∷ some (int least) ∷ some (int least) ∷ some (int minus-one) ∷ []) n)
+    (stopped at-end 1 0) 6 (stopped at-end 1 0) 7 ∷
     []
 unfolding all-of-pairing
 cases-run = refl

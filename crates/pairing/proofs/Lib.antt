@@ -28,5 +28,6 @@ pub mod UnlikePremise
 pub mod UnlikeSaves
 pub mod Computed
 pub mod NoProgress
+pub mod Division
 pub mod Theorems
 pub mod Contract

@@ -9,9 +9,10 @@ use borrow.Author.Tests.{eqb-true}
 use Rattle.arith.specs.declared.One.the-variants.{Not, Id}
 use Rattle.arith.specs.declared.Two.{Two}
 use Rattle.arith.specs.declared.Two.the-variants.{Add, Sub, Mul, Div, Eq, Lt, Gt, Le, Ge, And, Or, PtrAdd}
-use Rattle.arith.specs.Word.{W, least, minus-one, divW}
+use Rattle.arith.specs.Word.{W}
 use Rattle.arith.specs.Value.{tint, tbool, is-pointer, Val, int, float, literal, char, bool, pointer, typeOf, inRange, HasType}
-use Rattle.arith.specs.Operation.{Result, ok, stops, unset, by-zero, overflow, asInt, asBool, ints, bools, with-one, with-both, divide, shift, apply1, apply2, Expr, constant, one, two, eval}
+use Rattle.arith.specs.Operation.{Result, ok, stops, unset, asInt, asBool, ints, bools, with-one, with-both, divide, shift, apply1, apply2, Expr, constant, one, two, eval}
+use Rattle.arith.proofs.Operation.{divide-either}
 use Rattle.record.specs.declared.NameIx.{NameIx}
 use Rattle.numbering.specs.Number.{operands}
 use Rattle.machine.specs.Machine.{Store, read-cons, read-all}
@@ -67,13 +68,8 @@ shift-given s (bool b) k p h = absurd (subst (λ n. T (is-pointer n)) (sym (type
 shift-given s (pointer t b o) k p h = refl
 
 divide-given : (a b : ℕ) → given (divide a b) ≡ true
-unfolding divide given
-divide-given a b = go (eqb b 0) (eqb a least && eqb b minus-one)
-  where
-    go : (c d : Bool) → given (cond c (stops by-zero) (cond d (stops overflow) (ok (int (divW a b))))) ≡ true
-    go true d = refl
-    go false true = refl
-    go false false = refl
+unfolding given
+divide-given a b = divide-either (λ r. given r ≡ true) a b refl refl
 
 -- s and u: the types of the operands
 module _ (x y : Val) (s u : ℕ) (h : HasType s x) (k : HasType u y) where

@@ -6,9 +6,18 @@ use mathlib.Core.Path.{_≡_, refl, sym, ap, _∙_, subst}
 use mathlib.Core.Logic.{_≢_, _↔_, _⊎_}
 use mathlib.Core.Bool.{true}
 use mathlib.Core.List.{List, [], _∷_, _++_, map, map-append}
-use mathlib.Core.Option.{some}
+use mathlib.Core.Option.{Option, some}
 use native.Mathlib.Nat.{add-zero}
 use lib.ListN.{length, getD, length-map}
+use lib.Signed.{quotZ}
+use mir.Syntax.{w64}
+use mir.Val.{toZ}
+use Rattle.arith.specs.declared.Two.the-variants.{Div}
+use Rattle.arith.specs.Word.{W, least, minus-one, divW}
+use Rattle.arith.specs.Value.{tint, Val, int}
+use Rattle.arith.specs.Operation.{Cause, by-zero, ok, stops, divide, constant, two}
+use Rattle.arith.proofs.Signed.{word-of, divW-wraps}
+use Rattle.arith.proofs.Operation.{divide-stops}
 use Rattle.record.specs.declared.NameIx.{NameIx}
 use Rattle.record.specs.declared.Refusal.{Refusal}
 use Rattle.record.specs.declared.Checked.the-variants as check
@@ -18,14 +27,15 @@ use Rattle.record.specs.Read.{read}
 use Rattle.record.specs.Write.{bytes}
 use Rattle.record.specs.Answer.{checked}
 use Rattle.record.specs.Good.{RecordOk}
-use Rattle.record.specs.Short.{gives}
+use Rattle.record.specs.Short.{gives, set}
 use Rattle.record.proofs.Accepted.{read-ok}
 use Rattle.record.proofs.ReadBack.{reads-back}
 use Rattle.record.proofs.ReadFrom.{accept-from}
 use Rattle.record.proofs.Typed.{accept-typed}
 use Rattle.numbering.specs.declared.ValNum.{ValNum}
 use Rattle.numbering.specs.Number.{instr-lvn, block-lvn, count-saves, blocks-lvn, lvn}
-use Rattle.numbering.specs.State.{State, start}
+use Rattle.numbering.specs.State.{State, start, known}
+use Rattle.numbering.specs.Simplify.{simplify}
 use Rattle.numbering.specs.Shared.{behind, Exchanged, SharesNumber}
 use Rattle.numbering.specs.Decimal.{Decimal}
 use Rattle.numbering.specs.Made.{digits, made-name, made-names, made, rewriting}
@@ -48,7 +58,8 @@ use Rattle.numbering.proofs.Ahead.{figures-foretell, foretold-alone, written-wa
 use Rattle.numbering.proofs.Greater.{greater-is-less, greater-equal-is-less-equal}
 use Rattle.numbering.proofs.NoGreater.{none-greater}
 use Rattle.numbering.proofs.Shared.{shared-number}
-use Rattle.machine.specs.Machine.{Store, Answer, at-unset, run}
+use Rattle.numbering.proofs.Quotient.{quotient-simplified, stays-by-zero, quotient-is-constant}
+use Rattle.machine.specs.Machine.{Store, Context, Answer, at-unset, at-division, Mach, goes, ends, tick, assign, step, run}
 use Rattle.machine.specs.Reached.{read-no-unset}
 use Rattle.pairing.specs.Demand.{shown, stop, Agree, TypedStore, Starts, RunAlike, SavesBounded, All}
 use Rattle.pairing.specs.Contract.{Accepted}
@@ -56,6 +67,7 @@ use Rattle.pairing.specs.Progress.{Progress}
 use Rattle.pairing.proofs.Accepted.{accepted-fit}
 use Rattle.pairing.proofs.Progress.{progress, read-then-quiet, quiet-then-read}
 use Rattle.pairing.proofs.Functions.{fit-blocks, saves-bounded, demand3}
+use Rattle.pairing.proofs.Division.{quotient-step, zero-step}
 
 -- Demand 1: rewrite ends in exactly one of three ways, for every input and output: check's refusal with its reason and offset, the bytes
 -- needed, or the rewriting written with its length and all saves. The first two change no byte, the third none beyond; none the length.
@@ -286,3 +298,50 @@ digits-are-decimal = digits-are
 -- No other list of bytes is the decimal digits of a number.
 pub decimal-alone : (k : ℕ) (t : List ℕ) → Decimal k t → t ≡ digits k
 decimal-alone = digits-alone
+
+-- ---- the smallest number over minus one (document 02, Point 4)
+-- "overflow in arithmetic follows two's complement, division included": the quotient of two words is that of the integers they stand for,
+-- toward zero, modulo 2^64.
+pub division-wraps : (a b : ℕ) → a < W → b < W → divW a b ≡ word-of (quotZ (toZ w64 a) (toZ w64 b))
+division-wraps = divW-wraps
+
+-- "-2^63 div -1 is -2^63": by the one division that folding and the machine share.
+pub least-by-minus-one : divide least minus-one ≡ ok (int least)
+unfolding divide divW
+least-by-minus-one = refl
+
+-- It stops by zero and by nothing else.
+pub stops-by-zero-alone : (a b : ℕ) (c : Cause) → divide a b ≡ stops c ↔ (b ≡ 0)
+stops-by-zero-alone = divide-stops
+
+-- "in the machine, without a stop": a step of x = div a b sets x to the quotient, whatever a and b hold, unless b holds 0;
+pub division-goes-on :
+    (ctx : Context) (m : Mach) (id x a b k n : ℕ) → m .store (nm a) ≡ some (int k) → m .store (nm b) ≡ some (int n) → n ≢ 0 →
+    step ctx (gives id x 4 (a ∷ b ∷ [])) m ≡ goes (assign (tick m) (nm x) (int (divW k n)))
+division-goes-on = quotient-step
+
+-- then it stops, by id and cause.
+pub division-stops :
+    (ctx : Context) (m : Mach) (id x a b k n : ℕ) → m .store (nm a) ≡ some (int k) → m .store (nm b) ≡ some (int n) → n ≡ 0 →
+    step ctx (gives id x 4 (a ∷ b ∷ [])) m ≡ ends (at-division id by-zero) (tick m)
+division-stops = zero-step
+
+-- "simplify folds it when both are known", over what is known of each number;
+pub known-division-folds :
+    (f : ValNum → Option Val) (a b : ValNum) (m n : ℕ) → f a ≡ some (int m) → f b ≡ some (int n) → n ≢ 0 →
+    simplify f (two Div a b) ≡ constant (int (divW m n))
+known-division-folds = quotient-simplified
+
+-- "only those by zero still stay divisions".
+pub known-division-stays :
+    (f : ValNum → Option Val) (a b : ValNum) (m n : ℕ) → f a ≡ some (int m) → f b ≡ some (int n) →
+    simplify f (two Div a b) ≡ two Div a b ↔ (n ≡ 0)
+known-division-stays = stays-by-zero
+
+-- So x = div a b, where the numbers of a and b are known and b is not 0, is rewritten as x = const of the quotient under the same id would be:
+-- the same saves, the same instruction and the same state behind it.
+pub division-as-constant :
+    (N : ℕ) (t : NameIx → ℕ) (s : State) (id x a b m n : ℕ) (v w : ValNum) → s .env (nm a) ≡ some v → s .env (nm b) ≡ some w →
+    known s v ≡ some (int m) → known s w ≡ some (int n) → n ≢ 0 → t (nm x) ≡ tint →
+    instr-lvn N t s (gives id x 4 (a ∷ b ∷ [])) ≡ instr-lvn N t s (set id x 0 (divW m n))
+division-as-constant = quotient-is-constant

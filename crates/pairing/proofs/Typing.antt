@@ -8,10 +8,11 @@ use lib.Dec.{T, ltb, eqb, eqb→eq, lt→ltb}
 use Rattle.arith.specs.declared.One.the-variants.{Not, Id}
 use Rattle.arith.specs.declared.Two.{Two}
 use Rattle.arith.specs.declared.Two.the-variants.{Add, Sub, Mul, Div, Eq, Lt, Gt, Le, Ge, And, Or, PtrAdd}
-use Rattle.arith.specs.Word.{W, addW, subW, mulW, divW, least, minus-one}
+use Rattle.arith.specs.Word.{W, addW, subW, mulW, divW}
 use Rattle.arith.specs.Value.{tint, tbool, is-pointer, Val, int, float, literal, char, bool, pointer, typeOf, inRange, HasType}
-use Rattle.arith.specs.Operation.{Result, ok, stops, unset, by-zero, overflow, asInt, asBool, ints, bools, with-one, with-both, divide, shift, apply1, apply2, Expr, constant, one, two, eval}
+use Rattle.arith.specs.Operation.{Result, ok, stops, unset, asInt, asBool, ints, bools, with-one, with-both, divide, shift, apply1, apply2, Expr, constant, one, two, eval}
 use Rattle.arith.proofs.Words.{addW-word, subW-word, mulW-word, divW-word}
+use Rattle.arith.proofs.Operation.{divide-either}
 use Rattle.record.specs.declared.NameIx.{NameIx}
 use Rattle.numbering.specs.Number.{operands}
 use Rattle.pairing.specs.Joint.{Takes, Typed, Elem, first}
@@ -67,13 +68,7 @@ pub record Kept (Q : ℕ → Val → Type 0) : Type 0 where
 
 module _ (Q : ℕ → Val → Type 0) (K : Kept Q) where
   divide-keeps : (a b : ℕ) → Yields (Q tint) (divide a b)
-  unfolding divide
-  divide-keeps a b = go (eqb b 0) (eqb a least && eqb b minus-one)
-    where
-      go : (c d : Bool) → Yields (Q tint) (cond c (stops by-zero) (cond d (stops overflow) (ok (int (divW a b)))))
-      go true d = tt
-      go false true = tt
-      go false false = K .of-int (divW a b) (divW-word a b)
+  divide-keeps a b = divide-either (Yields (Q tint)) a b tt (K .of-int (divW a b) (divW-word a b))
 
   shift-keeps : (s : ℕ) (x : Val) (k : ℕ) → Q s x → Yields (Q s) (shift x k)
   unfolding shift

@@ -10,7 +10,7 @@ use mir.Facts.{and-yes}
 use lib.ListN.{length, getD}
 use lib.Dec.{T, T-not, eqb, eqb-refl}
 use lib.Ieee.Bits.{is-true}
-use Rattle.arith.specs.Operation.{Cause, by-zero, overflow}
+use Rattle.arith.specs.Operation.{by-zero}
 use Rattle.arith.specs.Value.{Val, int, float, literal, char, bool, pointer}
 use Rattle.arith.specs.Word.{W, least, minus-one}
 use Rattle.record.specs.Record.{nm, Function, names-of}
@@ -19,7 +19,7 @@ use Rattle.machine.specs.Reached.{read-no-unset}
 use Rattle.machine.specs.Examples.{store-of, event}
 use Rattle.pairing.specs.Demand.{Shown, next-block, stop, Agree, Starts, RunAlike}
 use Rattle.pairing.specs.Premises.{typed, first-set, all-same}
-use Rattle.pairing.specs.Wrong.{Case, run₁, run₂, Seen, seen₁, seen₂, event-id, event-code, event-callee, event-argument, event-arguments, event-order, event-ret, event-less, event-more, value-first, value-middle, value-last, value-for-nothing, nothing-for-value, value-bits, value-literal, next-block-other, end-or-block, none-or-block, stop-id, stop-cause, stop-kind, stop-halt, step-more, step-less, filed-more, filed-less, before-stop, behind-stop, filed-elsewhere, passed-other}
+use Rattle.pairing.specs.Wrong.{Case, run₁, run₂, Seen, seen₁, seen₂, event-id, event-code, event-callee, event-argument, event-arguments, event-order, event-ret, event-less, event-more, value-first, value-middle, value-last, value-for-nothing, nothing-for-value, value-bits, value-literal, next-block-other, end-or-block, none-or-block, stop-id, stop-or-passes, stop-kind, stop-halt, step-more, step-less, filed-more, filed-less, before-stop, behind-stop, filed-elsewhere, passed-other}
 use Rattle.pairing.proofs.Instances.{starts-from}
 use Rattle.pairing.specs.Opened.{all-of-pairing}
 
@@ -175,24 +175,20 @@ unfolding all-of-pairing
 values-alone = refl
 
 -- ---- "the same next block or the same stop"
-abbrev by-cause : Cause → ℕ
-by-cause by-zero = 0
-by-cause overflow = 1
-
 abbrev pub where-shown : Shown → ℕ
 where-shown (next-block b) = 10 + b
 where-shown (stop at-end) = 0
 where-shown (stop at-ret) = 1
 where-shown (stop at-halt) = 2
 where-shown (stop at-unset) = 3
-where-shown (stop (at-division i c)) = 1000 + i + i + by-cause c
+where-shown (stop (at-division i c)) = 1000 + i
 
 pub record Places : Type 0 where
   pub next-block : Unlike next-block-other
   pub end : Unlike end-or-block
   pub begin : Unlike none-or-block
   pub id : Unlike stop-id
-  pub cause : Unlike stop-cause
+  pub passes : Unlike stop-or-passes
   pub kind : Unlike stop-kind
   pub halt : Unlike stop-halt
 
@@ -204,21 +200,24 @@ places-refused =
       end = λ h. told where-shown (alike end-or-block tt h .place) tt;
       begin = λ h. told where-shown (alike none-or-block tt h .place) tt;
       id = λ h. told where-shown (alike stop-id tt h .place) tt;
-      cause = λ h. told where-shown (alike stop-cause tt h .place) tt;
+      passes = λ h. told where-shown (alike stop-or-passes tt h .place) tt;
       kind = λ h. told where-shown (alike stop-kind tt h .place) tt;
       halt = λ h. told where-shown (alike stop-halt tt h .place) tt;
     }
 
+abbrev divided-shown : Stop → List ℕ → Seen
+divided-shown s bs = shows [] (some (int least) ∷ some (int 0) ∷ some (int minus-one) ∷ none ∷ []) (stop s) [] bs 1
+
 abbrev division-shown : Stop → Seen
-division-shown s = shows [] (some (int least) ∷ some (int 0) ∷ some (int minus-one) ∷ none ∷ []) (stop s) [] [] 1
+division-shown s = divided-shown s []
 
 pub places-alone :
-    map sides (next-block-other ∷ end-or-block ∷ none-or-block ∷ stop-id ∷ stop-cause ∷ stop-kind ∷ stop-halt ∷ []) ≡
+    map sides (next-block-other ∷ end-or-block ∷ none-or-block ∷ stop-id ∷ stop-or-passes ∷ stop-kind ∷ stop-halt ∷ []) ≡
     (shows [] (some (int 3) ∷ []) (next-block 1) [] (0 ∷ []) 1, shows [] (some (int 3) ∷ []) (next-block 2) [] (0 ∷ []) 1) ∷
     (shows [] [] (stop at-end) [] (0 ∷ []) 1, shows [] [] (next-block 1) [] (0 ∷ []) 1) ∷
     (shows [] [] (stop at-end) [] [] 0, shows [] [] (next-block 0) [] [] 0) ∷
     (division-shown (at-division 2 by-zero), division-shown (at-division 3 by-zero)) ∷
-    (division-shown (at-division 2 by-zero), division-shown (at-division 2 overflow)) ∷
+    (division-shown (at-division 2 by-zero), divided-shown at-end (0 ∷ [])) ∷
     (division-shown (at-division 2 by-zero), division-shown at-unset) ∷
     (shows (event 1 20 0 [] ∷ []) (none ∷ []) (stop at-halt) [] [] 2, shows (event 1 20 0 [] ∷ []) (none ∷ []) (stop at-unset) [] [] 2) ∷
     []

@@ -1,15 +1,15 @@
 -- Functions with a wrong rewriting each that only a rare run shows: what demand 3 must refuse, so that it holds from every store,
 -- with every list of answers and over every number of blocks. Beside each, ordinary runs of the same two functions, which are alike.
-use Prim.Native.Nat.{ℕ}
+use Prim.Native.Nat.{ℕ, _+_}
 use mathlib.Core.Bool.{true, false}
 use mathlib.Core.List.{List, [], _∷_}
 use mathlib.Core.Option.{Option, none, some}
-use Rattle.arith.specs.Word.{least}
+use Rattle.arith.specs.Word.{least, minus-one}
 use Rattle.arith.specs.Value.{tint, tbool, Val, int, bool}
 use Rattle.record.specs.Record.{Instr, Block, Function}
 use Rattle.record.specs.Short.{gives, set, chooses}
 use Rattle.machine.specs.Machine.{Answer, value, go-on, halt}
-use Rattle.pairing.specs.Wrong.{const, print, nop, id, saving, body, fn, just, Case, from, next-block-other}
+use Rattle.pairing.specs.Wrong.{const, id, div, print, nop, saving, body, fn, just, Case, from, next-block-other}
 
 -- the same two functions, run otherwise
 abbrev instead : Case → List (Option Val) → List Answer → ℕ → Case
@@ -69,6 +69,13 @@ equal-not-less = compared 9 6 (1 ∷ 0 ∷ []) 5
 
 abbrev pub not-swapped : Case
 not-swapped = compared 7 6 (0 ∷ 1 ∷ []) 3
+
+-- a div -1 = a taken to be a = 0: unlike where a is -2^63
+abbrev pub least-argument : Case
+least-argument =
+    from (some (int least) ∷ none ∷ none ∷ none ∷ none ∷ []) [] 1
+    (just 1 (tint ∷ tint ∷ tint ∷ tint ∷ tbool ∷ []) (const 1 1 minus-one ∷ const 2 2 0 ∷ div 3 3 0 1 ∷ gives 4 4 5 (3 ∷ 0 ∷ []) ∷ []))
+    (just 1 (tint ∷ tint ∷ tint ∷ tint ∷ tbool ∷ []) (const 1 1 minus-one ∷ const 2 2 0 ∷ div 3 3 0 1 ∷ gives 4 4 5 (0 ∷ 2 ∷ []) ∷ []))
 
 -- a function that reads a name beyond its own, which is made: it is not like itself
 abbrev pub reads-made : Function
@@ -138,6 +145,8 @@ ordinary =
     instead equal-not-less (some (int 5) ∷ some (int 3) ∷ none ∷ []) [] 1 ∷
     instead equal-not-less (some (int 3) ∷ some (int 5) ∷ none ∷ []) [] 1 ∷
     instead not-swapped (some (int 5) ∷ some (int 5) ∷ none ∷ []) [] 1 ∷
+    instead least-argument (some (int 0) ∷ none ∷ none ∷ none ∷ none ∷ []) [] 1 ∷
+    instead least-argument (some (int (least + 1)) ∷ none ∷ none ∷ none ∷ none ∷ []) [] 1 ∷
     instead greatest-answer (none ∷ none ∷ none ∷ none ∷ []) (value (int 0) ∷ []) 1 ∷
     instead greatest-answer (none ∷ none ∷ none ∷ none ∷ []) [] 1 ∷
     instead writes-early (some (int 3) ∷ none ∷ []) (go-on ∷ []) 1 ∷

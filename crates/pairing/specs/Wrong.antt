@@ -185,8 +185,9 @@ dividing i j =
 abbrev pub stop-id : Case
 stop-id = dividing (div 2 3 0 1) (div 3 3 0 1)
 
-abbrev pub stop-cause : Case
-stop-cause = dividing (div 2 3 0 1) (div 2 3 0 2)
+-- -2^63 by 0, which stops, and by -1, which passes on and sets name 0 to what it holds: so another block is passed too
+abbrev pub stop-or-passes : Case
+stop-or-passes = dividing (div 2 0 0 1) (div 2 0 0 2)
 
 abbrev pub stop-kind : Case
 stop-kind = dividing (div 2 3 0 1) (id 2 3 3)

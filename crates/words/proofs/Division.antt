@@ -1,16 +1,17 @@
 -- Differences and quotients of words as the code has them: by a sum that wraps, and by sizes and signs.
 use Prim.Native.Nat.{ℕ, _+_, _-_, _/_, _%_, _<_, _≤_}
-use mathlib.Core.Path.{_≡_, refl, ap, _∙_}
-use mathlib.Core.Bool.{Bool, true, false, cond, xor, _&&_, Bool·beq}
+use mathlib.Core.Path.{_≡_, sym, ap, _∙_}
+use mathlib.Core.Logic.{_≢_}
+use mathlib.Core.Bool.{Bool, true, false, cond, xor, Bool·beq}
 use mathlib.Core.Option.{none, some}
 use native.Mathlib.Nat.{div-le-self, lt-of-le-of-lt}
 use native.Mathlib.Omega.{arith}
-use lib.Dec.{eqb}
-use borrow.Author.Tests.{eq-eqb, ne-eqb, le-leb, lt-leb, eqb-true}
+use borrow.Author.Tests.{le-leb, lt-leb}
 use Rattle.arith.proofs.Clash.{clash}
-use Rattle.arith.specs.Word.{W, least, minus-one, subW, divW, negative, size}
+use Rattle.arith.specs.Word.{W, least, subW, divW, negative, size}
 use Rattle.arith.specs.Value.{int}
-use Rattle.arith.specs.Operation.{divide}
+use Rattle.arith.specs.Operation.{by-zero, divide}
+use Rattle.arith.proofs.Operation.{divide-others, divide-stops}
 use Rattle.words.specs.View.{result-of}
 
 -- the number that b added to wraps back to a
@@ -62,19 +63,9 @@ module _ (a b q : ℕ) (e : q ≡ size a / size b) where
 -- ---- which divisions stop
 module _ (a b : ℕ) where
   pub by-zero-stops : b ≡ 0 → none ≡ result-of (divide a b)
-  unfolding divide result-of
-  by-zero-stops e = rw (eq-eqb b 0 e)
+  unfolding result-of
+  by-zero-stops e = sym (ap result-of (divide-stops a b by-zero .1 e))
 
-  module _ (not-zero : b ≡ 0 → ⊥) where
-    pub overflow-stops : a ≡ least → b ≡ minus-one → none ≡ result-of (divide a b)
-    unfolding divide result-of
-    overflow-stops e f = rw (ne-eqb b 0 not-zero, eq-eqb a least e, eq-eqb b minus-one f)
-
-    pub others-divide : (a ≡ least → b ≡ minus-one → ⊥) → some (int (divW a b)) ≡ result-of (divide a b)
-    unfolding divide result-of
-    others-divide h = rw (ne-eqb b 0 not-zero, off (eqb a least) (eqb b minus-one) refl refl)
-      where
-        off : (c d : Bool) → eqb a least ≡ c → eqb b minus-one ≡ d → (c && d) ≡ false
-        off true true e f = absurd (h (eqb-true a least e) (eqb-true b minus-one f))
-        off true false e f = refl
-        off false d e f = refl
+  pub others-divide : b ≢ 0 → some (int (divW a b)) ≡ result-of (divide a b)
+  unfolding result-of
+  others-divide h = sym (ap result-of (divide-others a b h))

@@ -58,7 +58,7 @@ pub fn size(a: u64) -> u64
     if LEAST <= a { sub(0, a) } else { a }
 }
 
-// The quotient toward zero, where the divisor is not 0: that of the sizes, with its sign.
+// The quotient toward zero, modulo 2^64, where the divisor is not 0: that of the sizes, with its sign.
 pub fn div(a: u64, b: u64) -> u64
     requires { ⌜ 0 < b ⌝ }
     ensures { λ r. ⌜ r ≡ divW a b ⌝ }
@@ -71,17 +71,12 @@ pub fn div(a: u64, b: u64) -> u64
     }
 }
 
-// A division by 0, or of -2^63 by -1, stops.
+// A division by 0 stops.
 pub fn divide(a: u64, b: u64) -> Quotient
     ensures { λ r. ⌜ quotient-of r ≡ result-of (divide a b) ⌝ }
 {
     if b == 0 {
         return Quotient::Stops;
-    }
-    if a == LEAST {
-        if b == MINUS_ONE {
-            return Quotient::Stops;
-        }
     }
     Quotient::Is(div(a, b))
 }

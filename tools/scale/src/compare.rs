@@ -4,7 +4,7 @@
 use crate::damage::damaged;
 use crate::function::{Encoded, Function, CODES};
 use crate::generate::Generator;
-use crate::one::{self, hex, Lent, Same};
+use crate::one::{self, hex, Division, Lent, Same};
 use crate::{rows, small};
 use std::time::{Duration, Instant};
 
@@ -26,17 +26,40 @@ struct Largest {
     rewriting: usize,
 }
 
+/// Functions on which the Rust panics, first in a division by 0 or of -2^63
+/// by -1, and the instructions behind.
+#[derive(Default)]
+struct Panics {
+    by_zero: u64,
+    of_least: u64,
+    behind_zero: u64,
+    behind_least: u64,
+}
+
+impl Panics {
+    fn count(&mut self, d: &Division) {
+        let (functions, behind) = match d.by_zero {
+            true => (&mut self.by_zero, &mut self.behind_zero),
+            false => (&mut self.of_least, &mut self.behind_least),
+        };
+        *functions += 1;
+        *behind += d.behind as u64;
+    }
+}
+
 #[derive(Default)]
 struct Tally {
     every_k: u64,
     comparisons: u64,
     all_comparisons: bool,
+    divisions: u64,
+    all_divisions: bool,
     small: u64,
     all_small: bool,
     random: u64,
     /// Damaged copies that are accepted all the same.
     still_accepted: u64,
-    divisions: u64,
+    panics: Panics,
     refused: [u64; 9],
     saves: u64,
     codes: Vec<u64>,
@@ -46,7 +69,7 @@ struct Tally {
 
 impl Tally {
     fn accepted(&self) -> u64 {
-        self.every_k + self.comparisons + self.small + self.random + self.still_accepted
+        self.every_k + self.comparisons + self.divisions + self.small + self.random + self.still_accepted
     }
 
     fn sizes(&mut self, f: &Function, record: usize) {
@@ -78,8 +101,8 @@ impl Compare {
                 self.tally.largest.rewriting = self.tally.largest.rewriting.max(length);
                 true
             }
-            Ok(Same::Division) => {
-                self.tally.divisions += 1;
+            Ok(Same::Panics(division)) => {
+                self.tally.panics.count(&division);
                 true
             }
             Ok(Same::Refused(number)) => {
@@ -112,7 +135,7 @@ impl Compare {
 /// Compares until the count or the time is reached; whether nothing differs.
 pub fn run(options: &Options) -> bool {
     let start = Instant::now();
-    let (mut comparisons, mut small) = (small::comparisons(), small::of_two_names());
+    let (mut comparisons, mut divisions, mut small) = (small::comparisons(), small::divisions(), small::of_two_names());
     let mut generator = Generator::new(options.seed);
     let tally = Tally { codes: vec![0; 72], ..Tally::default() };
     let mut c = Compare { tally, lent: Lent::new(), smallest: None };
@@ -127,8 +150,11 @@ pub fn run(options: &Options) -> bool {
         for _ in 0..16 {
             if let Some(f) = comparisons.next() {
                 c.tally.comparisons += u64::from(c.function(&f, &mut encoded));
-            } else if let Some(f) = small.next() {
+            } else if let Some(f) = divisions.next() {
                 c.tally.all_comparisons = true;
+                c.tally.divisions += u64::from(c.function(&f, &mut encoded));
+            } else if let Some(f) = small.next() {
+                c.tally.all_divisions = true;
                 c.tally.small += u64::from(c.function(&f, &mut encoded));
             } else {
                 c.tally.all_small = true;
@@ -160,13 +186,18 @@ fn summary(c: &mut Compare, options: &Options, time: Duration) {
     let (t, l) = (&c.tally, &c.tally.largest);
     let all = |are: bool| if are { "all of them" } else { "not all of them" };
     println!("seed {}, {:.1} s", options.seed, time.as_secs_f64());
-    println!("{} functions rewritten to the bytes of the altered Rust:", t.accepted());
+    println!("{} functions rewritten to the bytes of the second reading, and of the altered Rust where it gives any:", t.accepted());
     println!("  {} of 16384 saves, so with each K from 0 to 16383", t.every_k);
     println!("  {} blocks of up to three comparisons, consts, ids and prints ({})", t.comparisons, all(t.all_comparisons));
+    println!("  {} blocks of two consts and up to three divisions, ids and prints ({})", t.divisions, all(t.all_divisions));
     println!("  {} blocks of up to three instructions over two names ({})", t.small, all(t.all_small));
     println!("  {} random functions, {} damaged copies that are accepted", t.random, t.still_accepted);
-    println!("  {} of these with a division on which the Rust panics: the same up to it, and it stays", t.divisions);
-    println!("  outputs one byte short, exact, longer and of eight times the input, between guard bytes; two name texts each");
+    let n = &t.panics;
+    println!("the Rust panics on a division in {} of these, which are the same up to it:", n.by_zero + n.of_least);
+    println!("  {} by 0, which stays, with {} instructions behind;", n.by_zero, n.behind_zero);
+    println!("  {} of -2^63 by -1, which is a const, with {} instructions behind:", n.of_least, n.behind_least);
+    println!("  what is behind is by the second reading, and by the Rust on the function with the const in place of the division");
+    println!("outputs one byte short, exact, longer and of eight times the input, between guard bytes; two name texts each");
     let (p, u) = (&c.lent.places, &c.lent.unaltered);
     println!("the unaltered Rust: {} functions without gt and ge, on which it answers the same;", u.without);
     println!("  {} with gt or ge, {} of which it writes otherwise, {} with more comparisons", u.with, u.otherwise, u.shared);

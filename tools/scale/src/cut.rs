@@ -76,6 +76,13 @@ pub fn without(bytes: &[u8], p: Place) -> Vec<u8> {
     less
 }
 
+/// The record with other bytes in place of an instruction.
+pub fn instead(bytes: &[u8], p: Place, instr: &[u8]) -> Vec<u8> {
+    let mut other = [&bytes[..p.start], instr, &bytes[p.end..]].concat();
+    mend_length(&mut other);
+    other
+}
+
 /// The record up to an instruction, with it or without it; what follows is
 /// left out, and the blocks behind are empty.
 pub fn up_to(bytes: &[u8], p: Place, with: bool) -> Vec<u8> {

@@ -149,6 +149,58 @@ pub fn encode(f: &Function) -> Vec<u8> {
     encoded.bytes
 }
 
+/// The fields of an accepted record, one after the other.
+struct Fields<'a> {
+    bytes: &'a [u8],
+}
+
+impl<'a> Fields<'a> {
+    fn part(&mut self, width: usize) -> &'a [u8] {
+        let (part, rest) = self.bytes.split_at(width);
+        self.bytes = rest;
+        part
+    }
+
+    fn number(&mut self, width: usize) -> u64 {
+        self.part(width).iter().fold(0, |n, b| n << 8 | u64::from(*b))
+    }
+
+    fn instr(&mut self) -> Instr {
+        let mut i = Instr { id: self.number(4) as u32, code: self.number(1) as u8, ..Instr::default() };
+        if has_dest(i.code) {
+            i.dest = self.number(2) as u16;
+        }
+        if i.code == 0 {
+            (i.kind, i.literal) = (self.number(1) as u8, self.number(8));
+            return i;
+        }
+        i.args = (0..self.number(1)).map(|_| self.number(2) as u16).collect();
+        if has_callee(i.code) {
+            i.callee = self.number(2) as u16;
+        }
+        for target in &mut i.blocks[..targets(i.code)] {
+            *target = self.number(2) as u16;
+        }
+        i
+    }
+}
+
+/// The function of an accepted record.
+pub fn decode(bytes: &[u8]) -> Function {
+    let mut r = Fields { bytes: &bytes[5..] };
+    let mut f = Function { args: r.number(1) as u8, ..Function::default() };
+    for _ in 0..r.number(2) {
+        let (type_byte, length) = (r.number(1) as u8, r.number(1) as usize);
+        f.names.push((type_byte, r.part(length).to_vec()));
+    }
+    for _ in 0..r.number(2) {
+        let count = r.number(2);
+        r.number(2);
+        f.blocks.push((0..count).map(|_| r.instr()).collect());
+    }
+    f
+}
+
 /// Makes L the length of the rest.
 pub fn mend_length(bytes: &mut [u8]) {
     if bytes.len() >= 4 {

@@ -33,6 +33,9 @@ struct Profile {
     codes: &'static [u8],
 }
 
+/// The ints that most literals are drawn from in a function of divisions.
+const EDGES: [i64; 9] = [i64::MIN, i64::MIN, i64::MIN, -1, -1, -1, 1, 0, i64::MAX];
+
 const PROFILES: [Profile; 8] = [
     Profile {
         weight: 5,
@@ -79,6 +82,13 @@ const COMPARISONS: Profile = Profile {
     codes: &[0, 1, 6, 6, 7, 7, 8, 8, 9, 9, 13, 68],
 };
 
+/// Divisions of few ints, with ids and sums of them: one random function in ten, and none of a given size.
+const DIVISIONS: Profile = Profile {
+    weight: 0,
+    types: &[INT, INT, INT, BOOL, INT],
+    codes: &[0, 0, 1, 2, 3, 4, 4, 4, 4, 4, 13, 13, 68],
+};
+
 /// Every code that may stand before the last place.
 const EVERY: [u8; 39] = [
     0, 1, 2, 3, 4, 5, 6, 7, 8, 9, 10, 11, 12, 13, 14, 20, 21, 22, 23, 24, 25, 26, 27, 28, 29, 30,
@@ -116,11 +126,13 @@ pub struct Generator {
     f: Function,
     /// Whether a name holds a constant, as far as this block has set it.
     constant: Vec<bool>,
+    /// The ints that most literals are drawn from.
+    small: [i64; 9],
 }
 
 impl Generator {
     pub fn new(seed: u64) -> Self {
-        Generator { rng: Rng::new(seed), f: Function::default(), constant: vec![] }
+        Generator { rng: Rng::new(seed), f: Function::default(), constant: vec![], small: SMALL }
     }
 
     pub fn rng(&mut self) -> &mut Rng {
@@ -194,7 +206,7 @@ impl Generator {
             FLOAT if rng.chance(600) => (INT, rng.pick(&SMALL) as u64),
             FLOAT if rng.chance(800) => (FLOAT, rng.pick(&FLOATS)),
             FLOAT => (FLOAT, rng.bits()),
-            INT if rng.chance(700) => (INT, rng.pick(&SMALL) as u64),
+            INT if rng.chance(700) => (INT, rng.pick(&self.small) as u64),
             INT if rng.chance(900) => (INT, rng.pick(&INTS) as u64),
             INT => (INT, rng.bits()),
             BOOL => (BOOL, rng.below(2) as u64),
@@ -348,9 +360,15 @@ impl Generator {
 
     pub fn function(&mut self) -> Function {
         let size = Size::random(&mut self.rng);
-        if self.rng.chance(100) {
-            return self.of_profile(&size, &COMPARISONS);
+        match self.rng.below(10) {
+            0 => self.of_profile(&size, &COMPARISONS),
+            1 => {
+                self.small = EDGES;
+                let f = self.of_profile(&size, &DIVISIONS);
+                self.small = SMALL;
+                f
+            }
+            _ => self.of_size(&size),
         }
-        self.of_size(&size)
     }
 }

@@ -11,6 +11,7 @@ mod function;
 mod generate;
 mod guarded;
 mod handport;
+mod number;
 mod one;
 mod rng;
 mod rows;
@@ -80,7 +81,7 @@ fn given() -> Result<bool, Wrong> {
         let bytes = from_hex(line.trim()).map_err(at_line)?;
         let answer = match one::compare(&bytes, &mut one::Lent::new()) {
             Ok(one::Same::Rewritten(bytes, saves)) => format!("the same, {bytes} bytes, {saves} saves"),
-            Ok(one::Same::Division) => "the same up to the division on which the Rust panics".to_string(),
+            Ok(one::Same::Panics(_)) => "the same up to the division on which the Rust panics, and as the second reading".to_string(),
             Ok(one::Same::Refused(number)) => format!("refused {number} by both"),
             Err(what) => {
                 all = false;

@@ -1,10 +1,10 @@
 //! All comparisons on one record: the library with the altered Rust and with
-//! the second reading of document 01, and the altered Rust with the unaltered.
+//! the second readings, and the altered Rust with the unaltered.
 
 use crate::figures::Places;
 use crate::guarded::Guarded;
 use crate::unaltered::Unaltered;
-use crate::{cut, second};
+use crate::{cut, number, second};
 use lvn::{Refused, Unwritten, Written};
 use oracle::{Answer, Rust};
 
@@ -12,9 +12,17 @@ use oracle::{Answer, Rust};
 pub enum Same {
     /// Rewritten alike: the bytes of the rewriting and its saves.
     Rewritten(usize, usize),
-    /// A constant division on which the Rust panics, and which stays here.
-    Division,
+    /// A function on which the Rust panics: as the second reading has it, and
+    /// as the Rust up to the division.
+    Panics(Division),
     Refused(u8),
+}
+
+/// The constant division on which the Rust panics, and how many instructions
+/// stand behind it.
+pub struct Division {
+    pub by_zero: bool,
+    pub behind: usize,
 }
 
 /// What is lent to rewrite and to figures; and what is counted.
@@ -50,15 +58,17 @@ pub fn compare(bytes: &[u8], lent: &mut Lent) -> Result<Same, String> {
     accepted(bytes, answer, lent)
 }
 
-/// An accepted record, by the altered Rust's answer.
+/// An accepted record, by the second reading and by the altered Rust's answer.
 fn accepted(bytes: &[u8], answer: Answer, lent: &mut Lent) -> Result<Same, String> {
+    let second = number::rewriting(bytes);
+    let saves = rewritten(bytes, &second, lent)?;
+    names(bytes, &second)?;
     match answer {
+        Answer::Rewriting(rewriting) if rewriting == second => Ok(Same::Rewritten(second.len(), saves)),
         Answer::Rewriting(rewriting) => {
-            let saves = rewritten(bytes, &rewriting, lent)?;
-            names(bytes, &rewriting)?;
-            Ok(Same::Rewritten(rewriting.len(), saves))
+            Err(format!("written\n{}\nby the Rust\n{}", hex(&second), hex(&rewriting)))
         }
-        Answer::Panic => division(bytes, lent).map(|()| Same::Division),
+        Answer::Panic => division(bytes, &second, lent).map(Same::Panics),
         Answer::Bad => Err("the oracle cannot read the record or write its rewriting".to_string()),
     }
 }
@@ -93,11 +103,11 @@ fn outputs(bytes: &[u8], rewriting: &[u8], saves: usize, out: &mut Guarded<u8>) 
     for more in [0, 1 + need % 61, (8 * bytes.len()).saturating_sub(need)] {
         let answer = out.lend(need + more, |o| lvn::rewrite(bytes, o))?;
         if answer != Ok(Written { bytes: need, saves }) {
-            return Err(format!("{answer:?}, by the Rust {need} bytes and {saves} saves"));
+            return Err(format!("{answer:?}, by the second reading {need} bytes and {saves} saves"));
         }
         let (written, beyond) = out.lent().split_at(need);
         if written != rewriting {
-            return Err(format!("written\n{}\nby the Rust\n{}", hex(written), hex(rewriting)));
+            return Err(format!("written\n{}\nby the second reading\n{}", hex(written), hex(rewriting)));
         }
         if !out.untouched(beyond) {
             return Err("a byte beyond the rewriting was written".to_string());
@@ -141,21 +151,34 @@ fn names(bytes: &[u8], rewriting: &[u8]) -> Result<(), String> {
 }
 
 /// Of a record on which the Rust panics: up to the instruction on which it
-/// does, both rewrite alike, and that instruction is a division and stays one.
-fn division(bytes: &[u8], lent: &mut Lent) -> Result<(), String> {
+/// does, both rewrite alike; that instruction is a division by 0, which stays,
+/// or one of -2^63 by -1, which is written as a const. With the const in place
+/// of that division the whole is to be the same again, and there the Rust can
+/// be asked for more.
+fn division(bytes: &[u8], whole: &[u8], lent: &mut Lent) -> Result<Division, String> {
     let places = cut::places(bytes);
-    let rust = |p: cut::Place, with| oracle::rewrite(Rust::Altered, &cut::up_to(bytes, p, with));
-    let first = places[places.partition_point(|p| rust(*p, true) != Answer::Panic)];
-    accepted(&cut::up_to(bytes, first, false), rust(first, false), lent)?;
+    let rust = |record: &[u8]| oracle::rewrite(Rust::Altered, record);
+    let at = places.partition_point(|p| rust(&cut::up_to(bytes, *p, true)) != Answer::Panic);
+    let first = places[at];
+    let before = cut::up_to(bytes, first, false);
+    accepted(&before, rust(&before), lent)?;
     let with = cut::up_to(bytes, first, true);
     let (rewriting, _) = lvn::rewriting(&with).map_err(|r| format!("with the division: {r}"))?;
-    let end = rewriting.len() - 4 * first.behind;
-    let (written, read) = (&rewriting[end - 12..end - 4], &bytes[first.start..first.start + 8]);
-    if read[4] != 4 || written != read {
-        return Err(format!("the Rust panics, and {} is written for {}", hex(written), hex(read)));
+    let (read, end) = (&bytes[first.start..first.end], rewriting.len() - 4 * first.behind);
+    let least = [&read[..4], &[0], &read[5..7], &[0], &i64::MIN.to_be_bytes()].concat();
+    let by_zero = rewriting[end - 12..end - 4] == read[..8];
+    if read[4] != 4 || !by_zero && !rewriting[..end].ends_with(&least) {
+        return Err(format!("the Rust panics on {}, and {} is written", hex(read), hex(&rewriting)));
     }
-    let whole = lvn::rewriting(bytes).map_err(|r| r.to_string())?.0;
-    rewritten(bytes, &whole, lent).map(|_| ())
+    if !by_zero {
+        let instead = cut::instead(bytes, first, &least);
+        let answer = rust(&instead);
+        if number::rewriting(&instead) != whole {
+            return Err("with the const in place of the division another rewriting".to_string());
+        }
+        accepted(&instead, answer, lent)?;
+    }
+    Ok(Division { by_zero, behind: places.len() - at - 1 })
 }
 
 /// A smaller record that still differs.

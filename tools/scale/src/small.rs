@@ -1,5 +1,6 @@
 //! Every function of one block of up to three instructions: over two names, for
-//! pairs of types, numbers of arguments and small literals; and of comparisons.
+//! pairs of types, numbers of arguments and small literals; of comparisons; and
+//! of divisions, behind two constants.
 
 use crate::function::{Function, Instr, BOOL, CHAR, CODES, FLOAT, INT, POINTER};
 use crate::second;
@@ -42,6 +43,15 @@ fn two_names(types: [u8; 2]) -> Vec<(u8, Vec<u8>)> {
     vec![(types[0], b"x".to_vec()), (types[1], b"y".to_vec())]
 }
 
+fn instr(code: u8, dest: u16, args: &[u16]) -> Instr {
+    Instr { id: 7, code, dest, args: args.to_vec(), ..Instr::default() }
+}
+
+/// A constant.
+fn int(dest: u16, value: i64) -> Instr {
+    Instr { literal: value as u64, ..instr(0, dest, &[]) }
+}
+
 /// Every instruction over two names of these types that may stand alone in a block.
 fn instructions(types: [u8; 2]) -> Vec<Instr> {
     let mut all = vec![];
@@ -68,9 +78,11 @@ fn instructions(types: [u8; 2]) -> Vec<Instr> {
     all
 }
 
-/// Every function of one block of up to three of the choices, over these names, with none to so many arguments.
+/// Every function of one block of up to three of the choices behind the first
+/// instructions, over these names, with none to so many arguments.
 pub struct Blocks {
     names: Vec<(u8, Vec<u8>)>,
+    first: Vec<Instr>,
     choices: Vec<Instr>,
     most_args: u8,
     args: u8,
@@ -80,7 +92,7 @@ pub struct Blocks {
 
 impl Blocks {
     fn new(names: Vec<(u8, Vec<u8>)>, choices: Vec<Instr>, most_args: u8) -> Self {
-        Blocks { names, choices, most_args, args: 0, next: vec![] }
+        Blocks { names, first: vec![], choices, most_args, args: 0, next: vec![] }
     }
 
     /// The next list of places; behind the last there is one argument more.
@@ -106,7 +118,8 @@ impl Iterator for Blocks {
     fn next(&mut self) -> Option<Function> {
         while self.args <= self.most_args {
             let args = self.args;
-            let block: Vec<Instr> = self.next.iter().map(|p| self.choices[*p].clone()).collect();
+            let next = self.next.iter().map(|p| &self.choices[*p]);
+            let block: Vec<Instr> = self.first.iter().chain(next).cloned().collect();
             self.advance();
             let early = block.iter().rev().skip(1).any(|i| matches!(i.code, 64..=66));
             if !early {
@@ -126,13 +139,27 @@ pub fn of_two_names() -> impl Iterator<Item = Function> {
 /// b, and each by id into the other; p printed.
 pub fn comparisons() -> Blocks {
     let names = vec![(INT, b"a".to_vec()), (INT, b"b".to_vec()), (BOOL, b"p".to_vec())];
-    let instr = |code, dest, args: &[u16]| Instr { id: 7, code, dest, args: args.to_vec(), ..Instr::default() };
     let mut choices = vec![instr(13, 0, &[1]), instr(13, 1, &[0]), instr(68, 0, &[2])];
     for code in 6..=9 {
         choices.extend([[0, 0], [0, 1], [1, 0], [1, 1]].map(|pair| instr(code, 2, &pair)));
     }
     for dest in [0, 1] {
-        choices.extend([0, 1, -1].map(|i: i64| Instr { literal: i as u64, ..instr(0, dest, &[]) }));
+        choices.extend([0, 1, -1].map(|i| int(dest, i)));
     }
     Blocks::new(names, choices, 3)
+}
+
+/// Those over the ints a, b and x behind a constant in a and one in b: div of
+/// every pair of a and b into each, each by id into the others, add and sub of
+/// a and b into x, all printed.
+pub fn divisions() -> impl Iterator<Item = Function> {
+    let names = [b"a", b"b", b"x"].map(|text| (INT, text.to_vec()));
+    let mut choices = vec![instr(68, 0, &[0, 1, 2]), instr(1, 2, &[0, 1]), instr(2, 2, &[0, 1])];
+    for dest in [0, 1, 2] {
+        choices.extend([[0, 0], [0, 1], [1, 0], [1, 1]].map(|pair| instr(4, dest, &pair)));
+        choices.extend([0, 1, 2].into_iter().filter(|a| *a != dest).map(|a| instr(13, dest, &[a])));
+    }
+    let edges = [i64::MIN, i64::MAX, -1, 0, 1];
+    let pairs = edges.into_iter().flat_map(move |a| edges.map(|b| vec![int(0, a), int(1, b)]));
+    pairs.flat_map(move |first| Blocks { first, ..Blocks::new(names.to_vec(), choices.clone(), 0) })
 }
