@@ -8,6 +8,9 @@ use crate::one::{self, hex, Division, Lent, Same};
 use crate::{rows, small};
 use std::time::{Duration, Instant};
 
+/// How many small functions come before each random one, until all are compared.
+const SMALL: usize = 24;
+
 pub struct Options {
     pub seed: u64,
     pub count: Option<u64>,
@@ -147,7 +150,7 @@ pub fn run(options: &Options) -> bool {
     };
     c.tally.every_k = u64::from(c.function(&rows::saves(64), &mut encoded));
     while !done(&c.tally) {
-        for _ in 0..16 {
+        for _ in 0..SMALL {
             if let Some(f) = comparisons.next() {
                 c.tally.comparisons += u64::from(c.function(&f, &mut encoded));
             } else if let Some(f) = divisions.next() {

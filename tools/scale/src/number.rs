@@ -3,10 +3,9 @@
 //! taken from the code it is compared with: the rewriting of an accepted record.
 
 use crate::function::{decode, Encoded, Function, Instr, Kind, BOOL, FLOAT, INT};
-use std::collections::HashMap;
 
 /// A value: a constant, an operator over numbers, or one that is new each time.
-#[derive(Clone, Copy, PartialEq, Eq, Hash)]
+#[derive(Clone, Copy, PartialEq)]
 enum Value {
     Int(i64),
     Bool(bool),
@@ -71,12 +70,11 @@ fn ordered(code: u8, a: usize, b: usize) -> Value {
 /// The numbering of one block; `f` has the names made so far.
 struct Block<'a> {
     f: &'a mut Function,
-    originals: usize,
-    numbers: HashMap<u16, usize>,
+    /// Of each original name: its number.
+    numbers: Vec<Option<usize>>,
     /// Of each number: its home, and its value.
     homes: Vec<u16>,
     values: Vec<Value>,
-    found: HashMap<Value, usize>,
     written: Vec<Instr>,
     saves: u16,
 }
@@ -85,15 +83,12 @@ impl Block<'_> {
     fn fresh(&mut self, name: u16, value: Value) -> usize {
         self.homes.push(name);
         self.values.push(value);
-        self.numbers.insert(name, self.homes.len() - 1);
+        self.numbers[usize::from(name)] = Some(self.homes.len() - 1);
         self.homes.len() - 1
     }
 
     fn number(&mut self, name: u16) -> usize {
-        match self.numbers.get(&name) {
-            Some(number) => *number,
-            None => self.fresh(name, New),
-        }
+        self.numbers[usize::from(name)].unwrap_or_else(|| self.fresh(name, New))
     }
 
     fn known(&self, number: usize) -> Option<Value> {
@@ -143,12 +138,12 @@ impl Block<'_> {
 
     /// The save of what dest holds, if dest is the home of its number.
     fn save(&mut self, i: &Instr) {
-        let Some(number) = self.numbers.get(&i.dest).copied().filter(|v| self.homes[*v] == i.dest) else {
+        let Some(number) = self.numbers[usize::from(i.dest)].filter(|v| self.homes[*v] == i.dest) else {
             return;
         };
         let made = self.f.names.len();
         let (type_byte, text) = &self.f.names[usize::from(i.dest)];
-        let text = [b"_", &text[..], b"_lvn", (made - self.originals).to_string().as_bytes()].concat();
+        let text = [b"_", &text[..], b"_lvn", (made - self.numbers.len()).to_string().as_bytes()].concat();
         self.f.names.push((*type_byte, text));
         self.homes[number] = made as u16;
         self.written.push(Instr { id: i.id, code: 13, dest: made as u16, args: vec![i.dest], ..Instr::default() });
@@ -170,17 +165,14 @@ impl Block<'_> {
         let number = match value {
             One(13, v) => Some(v),
             New => None,
-            _ => self.found.get(&value).copied(),
+            _ => self.values.iter().position(|v| *v == value),
         };
         if let Some(v) = number {
             let again = self.known(v).unwrap_or(One(13, v));
             self.written.push(self.instr_of(&replaced, again));
-            self.numbers.insert(i.dest, v);
+            self.numbers[usize::from(i.dest)] = Some(v);
         } else {
-            let v = self.fresh(i.dest, value);
-            if value != New {
-                self.found.insert(value, v);
-            }
+            self.fresh(i.dest, value);
             self.written.push(first);
         }
     }
@@ -195,11 +187,9 @@ pub fn rewriting(bytes: &[u8]) -> Vec<u8> {
         let body = std::mem::take(&mut f.blocks[n]);
         let mut block = Block {
             f: &mut f,
-            originals,
-            numbers: HashMap::new(),
+            numbers: vec![None; originals],
             homes: vec![],
             values: vec![],
-            found: HashMap::new(),
             written: vec![],
             saves: 0,
         };

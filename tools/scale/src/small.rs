@@ -149,17 +149,18 @@ pub fn comparisons() -> Blocks {
     Blocks::new(names, choices, 3)
 }
 
-/// Those over the ints a, b and x behind a constant in a and one in b: div of
-/// every pair of a and b into each, each by id into the others, add and sub of
-/// a and b into x, all printed.
+/// Those over the ints a, b and x behind a constant in a and one in b: a by b
+/// and b by a into each, each by id into the others, their sum into x, all
+/// printed.
 pub fn divisions() -> impl Iterator<Item = Function> {
     let names = [b"a", b"b", b"x"].map(|text| (INT, text.to_vec()));
-    let mut choices = vec![instr(68, 0, &[0, 1, 2]), instr(1, 2, &[0, 1]), instr(2, 2, &[0, 1])];
+    let mut choices = vec![instr(68, 0, &[0, 1, 2]), instr(1, 2, &[0, 1])];
     for dest in [0, 1, 2] {
-        choices.extend([[0, 0], [0, 1], [1, 0], [1, 1]].map(|pair| instr(4, dest, &pair)));
+        choices.extend([[0, 1], [1, 0]].map(|pair| instr(4, dest, &pair)));
         choices.extend([0, 1, 2].into_iter().filter(|a| *a != dest).map(|a| instr(13, dest, &[a])));
     }
-    let edges = [i64::MIN, i64::MAX, -1, 0, 1];
-    let pairs = edges.into_iter().flat_map(move |a| edges.map(|b| vec![int(0, a), int(1, b)]));
-    pairs.flat_map(move |first| Blocks { first, ..Blocks::new(names.to_vec(), choices.clone(), 0) })
+    let edges = [i64::MIN, i64::MAX, -1, 1];
+    let pairs = edges.into_iter().flat_map(move |a| edges.map(|b| (a, b))).chain([(i64::MIN, 0)]);
+    let consts = pairs.map(|(a, b)| vec![int(0, a), int(1, b)]);
+    consts.flat_map(move |first| Blocks { first, ..Blocks::new(names.to_vec(), choices.clone(), 0) })
 }
