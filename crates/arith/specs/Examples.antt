@@ -43,13 +43,13 @@ pub quotients :
 unfolding all-of-arith
 quotients = refl
 
--- -2^63 by -1 is -2^63, by 1 too, and by 2, -2 and itself as any other; -2^63+1 by -1 is 2^63-1, and that by -1 is -2^63+1
+-- -2^63 by -1 is -2^63, by 1 too, and by 2, -2 and itself as any other; -2^63+1 by -1 is 2^63-1; 2^63-1 by -1 and by 2
 pub quotients-at-the-edge :
     map (on-ints Div)
     ((least, minus-one) ∷ (least, 1) ∷ (least, 2) ∷ (least, minus 2) ∷ (least, least) ∷ (minus-one, least) ∷ (least + 1, minus-one) ∷
-    (least - 1, minus-one) ∷ []) ≡
+    (least - 1, minus-one) ∷ (least - 1, 2) ∷ []) ≡
     ok (int least) ∷ ok (int least) ∷ ok (int 0xC000_0000_0000_0000) ∷ ok (int 0x4000_0000_0000_0000) ∷ ok (int 1) ∷ ok (int 0) ∷
-    ok (int 0x7FFF_FFFF_FFFF_FFFF) ∷ ok (int 0x8000_0000_0000_0001) ∷ []
+    ok (int 0x7FFF_FFFF_FFFF_FFFF) ∷ ok (int 0x8000_0000_0000_0001) ∷ ok (int 0x3FFF_FFFF_FFFF_FFFF) ∷ []
 unfolding all-of-arith
 quotients-at-the-edge = refl
 

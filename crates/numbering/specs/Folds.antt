@@ -69,8 +69,8 @@ multiplies = refl
 
 -- by 0 the division stays, whatever is divided; where one operand is not known it stays too
 pub divides :
-    map (of-two Div) ((2, 1) ∷ (9, 2) ∷ (2, 0) ∷ (0, 0) ∷ (8, 0) ∷ (5, 1) ∷ (5, 9) ∷ (8, 5) ∷ (5, 5) ∷ (6, 5) ∷ []) ≡
-    constant (int 2) ∷ constant (int 0) ∷ stays Div 2 0 ∷ stays Div 0 0 ∷ stays Div 8 0 ∷ stays Div 5 1 ∷ stays Div 5 9 ∷ stays Div 8 5 ∷
+    map (of-two Div) ((2, 1) ∷ (9, 2) ∷ (2, 0) ∷ (0, 0) ∷ (8, 0) ∷ (5, 1) ∷ (5, 9) ∷ (0, 5) ∷ (8, 5) ∷ (5, 5) ∷ (6, 5) ∷ []) ≡
+    constant (int 2) ∷ constant (int 0) ∷ stays Div 2 0 ∷ stays Div 0 0 ∷ stays Div 8 0 ∷ stays Div 5 1 ∷ stays Div 5 9 ∷ stays Div 0 5 ∷ stays Div 8 5 ∷
     stays Div 5 5 ∷ stays Div 6 5 ∷ []
 unfolding all-of-numbering
 divides = refl
