@@ -3,4 +3,5 @@ pub mod Map
 pub mod Found
 pub mod Words
 pub mod Operation
+pub mod Stops
 pub mod Signed

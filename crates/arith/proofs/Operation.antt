@@ -36,6 +36,23 @@ divide-either P a b h k = go (eqb b 0)
     go true = h
     go false = k
 
+-- ---- P of an operation, if it holds of unset and of what the operands give
+pub with-one-has :
+    {A : Type 0} (P : Result → Type 0) (x : Option A) (f : A → Result) → P unset → ((a : A) → x ≡ some a → P (f a)) → P (with-one x f)
+unfolding with-one
+with-one-has P none f u h = u
+with-one-has P (some a) f u h = h a refl
+
+pub with-both-has :
+    {A B : Type 0} (P : Result → Type 0) (x : Option A) (y : Option B) (f : A → B → Result) →
+    P unset →
+    ((a : A) (b : B) → x ≡ some a → y ≡ some b → P (f a b)) →
+    P (with-both x y f)
+unfolding with-both
+with-both-has P none y f u h = u
+with-both-has P (some a) none f u h = u
+with-both-has P (some a) (some b) f u h = h a b refl refl
+
 -- ---- a result that is not unset: all operands are set
 pub with-one-set : {A : Type 0} (x : Option A) (f : A → Result) → with-one x f ≢ unset → (a : A) × (x ≡ some a)
 unfolding with-one
@@ -53,11 +70,11 @@ with-both-set (some a) (some b) f h = (a, b, refl, refl)
 
 -- ---- and of the operator's type: P of two operands holds if it holds of two such
 -- what is taken for an int or a bool is one
-record Taken (v : Val) : Type 0 where
-  as-int : (w : ℕ) → asInt v ≡ some w → int w ≡ v
-  as-bool : (c : Bool) → asBool v ≡ some c → bool c ≡ v
+pub record Taken (v : Val) : Type 0 where
+  pub as-int : (w : ℕ) → asInt v ≡ some w → int w ≡ v
+  pub as-bool : (c : Bool) → asBool v ≡ some c → bool c ≡ v
 
-taken : (v : Val) → Taken v
+pub taken : (v : Val) → Taken v
 unfolding asInt asBool
 taken (int n) = record { as-int = λ w e. cc; as-bool = λ c e. cc }
 taken (float n) = record { as-int = λ w e. cc; as-bool = λ c e. cc }

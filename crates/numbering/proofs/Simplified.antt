@@ -13,7 +13,7 @@ use Rattle.arith.specs.Word.{W, addW, subW, mulW, divW, ltW, leW}
 use Rattle.arith.specs.Value.{Val, int, float, literal, char, bool, pointer}
 use Rattle.arith.specs.Operation.{Result, ok, stops, unset, asInt, asBool, with-both, with-one, divide, shift, apply1, apply2, Expr, constant, one, two}
 use Rattle.arith.proofs.Words.{addW-word, subW-word, mulW-word, divW-word}
-use Rattle.arith.proofs.Operation.{divide-either}
+use Rattle.arith.proofs.Operation.{divide-either, with-one-has, with-both-has}
 use Rattle.numbering.specs.declared.ValNum.{ValNum}
 use Rattle.numbering.specs.State.{State, known-value, known-expr, known}
 use Rattle.numbering.specs.Simplify.{folded, fold1, fold2, is-int, is-bool, id-of, gives, absorbs, identity, ordered, first, simplify1, simplify2, simplify}
@@ -81,18 +81,6 @@ module _ (Q : Expr ValNum → Type 0) (closed : Closed (λ v. Q (constant v))) w
   ResultOk (stops c) = Unit {0}
   ResultOk unset = Unit {0}
 
-  with-both-ok :
-      {A B : Type 0} (x : Option A) (y : Option B) (f : A → B → Result) → ((a : A) (b : B) → ResultOk (f a b)) → ResultOk (with-both x y f)
-  unfolding with-both
-  with-both-ok none y f h = tt
-  with-both-ok (some x) none f h = tt
-  with-both-ok (some x) (some y) f h = h x y
-
-  with-one-ok : {A : Type 0} (x : Option A) (f : A → Result) → ((a : A) → ResultOk (f a)) → ResultOk (with-one x f)
-  unfolding with-one
-  with-one-ok none f h = tt
-  with-one-ok (some x) f h = h x
-
   divide-ok : (a b : ℕ) → ResultOk (divide a b)
   divide-ok a b = divide-either ResultOk a b tt (closed .ints (divW a b) (divW-word a b))
 
@@ -107,14 +95,14 @@ module _ (Q : Expr ValNum → Type 0) (closed : Closed (λ v. Q (constant v))) w
 
   apply1-ok : (o : One) (x : Val) → Q (constant x) → ResultOk (apply1 o x)
   unfolding apply1
-  apply1-ok Not x h = with-one-ok (asBool x) (λ a. ok (bool (not a))) (λ a. closed .bools (not a))
+  apply1-ok Not x h = with-one-has ResultOk (asBool x) (λ a. ok (bool (not a))) tt (λ a p. closed .bools (not a))
   apply1-ok Id x h = h
 
   ints-ok : (x y : Val) (f : ℕ → ℕ → Result) → ((a b : ℕ) → ResultOk (f a b)) → ResultOk (with-both (asInt x) (asInt y) f)
-  ints-ok x y f h = with-both-ok (asInt x) (asInt y) f h
+  ints-ok x y f h = with-both-has ResultOk (asInt x) (asInt y) f tt (λ a b p q. h a b)
 
   bools-ok : (x y : Val) (f : Bool → Bool → Bool) → ResultOk (with-both (asBool x) (asBool y) (λ a b. ok (bool (f a b))))
-  bools-ok x y f = with-both-ok (asBool x) (asBool y) (λ a b. ok (bool (f a b))) (λ a b. closed .bools (f a b))
+  bools-ok x y f = with-both-has ResultOk (asBool x) (asBool y) (λ a b. ok (bool (f a b))) tt (λ a b p q. closed .bools (f a b))
 
   apply2-ok : (o : Two) (x y : Val) → ResultOk (apply2 o x y)
   unfolding apply2
@@ -129,7 +117,7 @@ module _ (Q : Expr ValNum → Type 0) (closed : Closed (λ v. Q (constant v))) w
   apply2-ok Ge x y = ints-ok x y (λ a b. ok (bool (leW b a))) (λ a b. closed .bools (leW b a))
   apply2-ok And x y = bools-ok x y (λ a b. a && b)
   apply2-ok Or x y = bools-ok x y (λ a b. a || b)
-  apply2-ok PtrAdd x y = with-one-ok (asInt y) (shift x) (shift-ok x)
+  apply2-ok PtrAdd x y = with-one-has ResultOk (asInt y) (shift x) tt (λ k p. shift-ok x k)
 
   -- ---- value expressions
   abbrev Found : Option (Expr ValNum) → Type 0

@@ -12,7 +12,7 @@ use Rattle.arith.specs.Word.{W, addW, subW, mulW, divW}
 use Rattle.arith.specs.Value.{tint, tbool, is-pointer, Val, int, float, literal, char, bool, pointer, typeOf, inRange, HasType}
 use Rattle.arith.specs.Operation.{Result, ok, stops, unset, asInt, asBool, ints, bools, with-one, with-both, divide, shift, apply1, apply2, Expr, constant, one, two, eval}
 use Rattle.arith.proofs.Words.{addW-word, subW-word, mulW-word, divW-word}
-use Rattle.arith.proofs.Operation.{divide-either}
+use Rattle.arith.proofs.Operation.{divide-either, with-one-has, with-both-has}
 use Rattle.record.specs.declared.NameIx.{NameIx}
 use Rattle.numbering.specs.Number.{operands}
 use Rattle.pairing.specs.Joint.{Takes, Typed, Elem, first}
@@ -26,23 +26,6 @@ Yields P unset = Unit {0}
 
 pub yields-at : (P : Val → Type 0) (r : Result) (v : Val) → Yields P r → r ≡ ok v → P v
 yields-at P r v h e = subst (Yields P) e h
-
-with-one-yields :
-    {A : Type 0} (P : Val → Type 0) (x : Option A) (f : A → Result) →
-    ((a : A) → x ≡ some a → Yields P (f a)) →
-    Yields P (with-one x f)
-unfolding with-one
-with-one-yields P none f h = tt
-with-one-yields P (some a) f h = h a refl
-
-with-both-yields :
-    {A B : Type 0} (P : Val → Type 0) (x : Option A) (y : Option B) (f : A → B → Result) →
-    ((a : A) (b : B) → x ≡ some a → y ≡ some b → Yields P (f a b)) →
-    Yields P (with-both x y f)
-unfolding with-both
-with-both-yields P none y f h = tt
-with-both-yields P (some a) none f h = tt
-with-both-yields P (some a) (some b) f h = h a b refl refl
 
 -- ---- values of a type
 pub type-is : (d : ℕ) (v : Val) → HasType d v → typeOf v ≡ d
@@ -81,14 +64,14 @@ module _ (Q : ℕ → Val → Type 0) (K : Kept Q) where
 
   -- an operator on two ints or two bools, whose results have the type d
   ints-keep : (d : ℕ) (x y : Val) (f : ℕ → ℕ → Result) → ((a b : ℕ) → Yields (Q d) (f a b)) → Yields (Q d) (ints x y f)
-  ints-keep d x y f h = with-both-yields (Q d) (asInt x) (asInt y) f (λ a b p q. h a b)
+  ints-keep d x y f h = with-both-has (Yields (Q d)) (asInt x) (asInt y) f tt (λ a b p q. h a b)
 
   bools-keep : (d : ℕ) (x y : Val) (f : Bool → Bool → Result) → ((a b : Bool) → Yields (Q d) (f a b)) → Yields (Q d) (bools x y f)
-  bools-keep d x y f h = with-both-yields (Q d) (asBool x) (asBool y) f (λ a b p q. h a b)
+  bools-keep d x y f h = with-both-has (Yields (Q d)) (asBool x) (asBool y) f tt (λ a b p q. h a b)
 
   pub not-keeps : (d : ℕ) (x : Val) → d ≡ tbool → Yields (Q d) (apply1 Not x)
   unfolding apply1
-  not-keeps d x e = rw e (with-one-yields (Q tbool) (asBool x) _ (λ b q. K .of-bool (not b)))
+  not-keeps d x e = rw e (with-one-has (Yields (Q tbool)) (asBool x) _ tt (λ b q. K .of-bool (not b)))
 
   -- s and u: the types of the operands
   pub apply2-keeps : (o : Two) (x y : Val) (s u d : ℕ) → Takes o s u d → Q s x → Yields (Q d) (apply2 o x y)
@@ -104,7 +87,7 @@ module _ (Q : ℕ → Val → Type 0) (K : Kept Q) where
   apply2-keeps Ge x y s u d g h = rw (g .2) (ints-keep tbool x y _ (λ a b. K .of-bool _))
   apply2-keeps And x y s u d g h = rw (g .2) (bools-keep tbool x y _ (λ a b. K .of-bool _))
   apply2-keeps Or x y s u d g h = rw (g .2) (bools-keep tbool x y _ (λ a b. K .of-bool _))
-  apply2-keeps PtrAdd x y s u d g h = rw (g .2) (with-one-yields (Q s) (asInt y) (shift x) (λ k e. shift-keeps s x k h))
+  apply2-keeps PtrAdd x y s u d g h = rw (g .2) (with-one-has (Yields (Q s)) (asInt y) (shift x) tt (λ k e. shift-keeps s x k h))
 
 pub types-kept : Kept HasType
 unfolding typeOf inRange
@@ -119,10 +102,10 @@ eval-yields :
 unfolding eval apply1
 eval-yields t σ (constant v) d g h = g
 eval-yields t σ (one Not a) d g h =
-    with-one-yields (HasType d) (σ a) (apply1 Not) (λ x p. not-keeps HasType types-kept d x (g .1))
-eval-yields t σ (one Id a) d g h = with-one-yields (HasType d) (σ a) (apply1 Id) (λ x p. rw g (h a x p first))
+    with-one-has (Yields (HasType d)) (σ a) (apply1 Not) tt (λ x p. not-keeps HasType types-kept d x (g .1))
+eval-yields t σ (one Id a) d g h = with-one-has (Yields (HasType d)) (σ a) (apply1 Id) tt (λ x p. rw g (h a x p first))
 eval-yields t σ (two o a b) d g h =
-    with-both-yields (HasType d) (σ a) (σ b) (apply2 o)
+    with-both-has (Yields (HasType d)) (σ a) (σ b) (apply2 o) tt
     (λ x y p q. apply2-keeps HasType types-kept o x y (t a) (t b) d g (h a x p first))
 
 -- t: the type of each name; the names that e reads hold values of their types, those that hold one
