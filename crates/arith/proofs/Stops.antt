@@ -1,7 +1,7 @@
 -- An expression stops only where it is a division whose divisor is 0.
 use Prim.Native.Nat.{ℕ}
 use mathlib.Core.Path.{_≡_, refl, sym, ap, _∙_}
-use mathlib.Core.Bool.{Bool, not, _&&_, _||_}
+use mathlib.Core.Bool.{Bool, _&&_, _||_}
 use mathlib.Core.Option.{Option, some}
 use lib.Dec.{eqb}
 use Rattle.arith.specs.declared.One.{One}
@@ -15,7 +15,7 @@ use Rattle.arith.proofs.Clash.{clash}
 use Rattle.arith.proofs.Operation.{divide-stops, with-one-has, with-both-has, taken}
 
 -- f: what each operand holds
-pub record ByZero {A : Type 0} (f : A → Option Val) (e : Expr A) : Type 0 where
+pub record ZeroDivisor {A : Type 0} (f : A → Option Val) (e : Expr A) : Type 0 where
   pub dividend : A
   pub divisor : A
   pub is : e ≡ two Div dividend divisor
@@ -63,13 +63,13 @@ module _ (c : Cause) where
   two-stops PtrAdd x y =
       with-one-has (λ r. r ≡ stops c → (PtrAdd ≡ Div) × (y ≡ int 0)) (asInt y) (shift x) (λ h. clash (cc h)) (λ k p. shift-goes-on x k)
 
-  pub eval-stops : {A : Type 0} (f : A → Option Val) (e : Expr A) → eval f e ≡ stops c → ByZero f e
+  pub eval-stops : {A : Type 0} (f : A → Option Val) (e : Expr A) → eval f e ≡ stops c → ZeroDivisor f e
   unfolding eval
   eval-stops f (constant v) h = clash (cc h)
   eval-stops f (one o a) h =
-      with-one-has (λ r. r ≡ stops c → ByZero f (one o a)) (f a) (apply1 o) (λ k. clash (cc k)) (λ x p. one-goes-on o x) h
+      with-one-has (λ r. r ≡ stops c → ZeroDivisor f (one o a)) (f a) (apply1 o) (λ k. clash (cc k)) (λ x p. one-goes-on o x) h
   eval-stops f (two o a b) h =
-      with-both-has (λ r. r ≡ stops c → ByZero f (two o a b)) (f a) (f b) (apply2 o) (λ k. clash (cc k))
+      with-both-has (λ r. r ≡ stops c → ZeroDivisor f (two o a b)) (f a) (f b) (apply2 o) (λ k. clash (cc k))
       (λ x y p q k.
       let (d, z) = two-stops o x y k in
       record { dividend = a; divisor = b; is = ap (λ u. two u a b) d; zero = q ∙ ap some z }) h

@@ -1,17 +1,17 @@
 -- Document 02, Point 2: an instruction gt a b is rewritten as lt b a is, in every respect, folded or not; ge a b as le b a.
 use Prim.Native.Nat.{ℕ}
-use mathlib.Core.Path.{_≡_, refl, sym, ap, ap₂, _∙_}
+use mathlib.Core.Path.{_≡_, refl, sym, ap}
 use mathlib.Core.List.{[], _∷_}
 use mathlib.Core.Option.{Option, none, some, Option·getD}
 use Rattle.arith.specs.declared.Two.{Two}
 use Rattle.arith.specs.declared.Two.the-variants.{Lt, Gt, Le, Ge}
 use Rattle.arith.specs.Code.{code1, code2, with-code, one-of, two-of}
 use Rattle.arith.specs.Value.{Val}
-use Rattle.arith.specs.Operation.{Expr, two}
+use Rattle.arith.specs.Operation.{two}
 use Rattle.arith.proofs.Operation.{Swaps, less-swaps, less-equal-swaps}
 use Rattle.record.specs.declared.NameIx.{NameIx}
-use Rattle.record.specs.Record.{nm, Instr}
-use Rattle.record.specs.Form.{pure, form}
+use Rattle.record.specs.Record.{nm}
+use Rattle.record.specs.Form.{form}
 use Rattle.record.specs.Short.{gives}
 use Rattle.numbering.specs.declared.ValNum.{ValNum}
 use Rattle.numbering.specs.State.{State, number-of, known}

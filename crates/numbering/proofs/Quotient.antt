@@ -9,7 +9,7 @@ use Rattle.arith.specs.declared.Two.the-variants.{Div}
 use Rattle.arith.specs.Word.{divW}
 use Rattle.arith.specs.Value.{tint, Val, int}
 use Rattle.arith.specs.Code.{code1, code2, with-code, one-of, two-of}
-use Rattle.arith.specs.Operation.{asInt, with-both, by-zero, divide, apply2, Expr, constant, two}
+use Rattle.arith.specs.Operation.{asInt, with-both, by-zero, apply2, constant, two}
 use Rattle.arith.proofs.Clash.{clash}
 use Rattle.arith.proofs.Operation.{divide-others, divide-stops}
 use Rattle.record.specs.declared.NameIx.{NameIx}

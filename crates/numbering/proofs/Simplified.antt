@@ -11,7 +11,7 @@ use Rattle.arith.specs.declared.Two.{Two}
 use Rattle.arith.specs.declared.Two.the-variants.{Add, Sub, Mul, Div, Eq, Lt, Gt, Le, Ge, And, Or, PtrAdd}
 use Rattle.arith.specs.Word.{W, addW, subW, mulW, divW, ltW, leW}
 use Rattle.arith.specs.Value.{Val, int, float, literal, char, bool, pointer}
-use Rattle.arith.specs.Operation.{Result, ok, stops, unset, asInt, asBool, with-both, with-one, divide, shift, apply1, apply2, Expr, constant, one, two}
+use Rattle.arith.specs.Operation.{Result, ok, stops, unset, asInt, asBool, with-both, divide, shift, apply1, apply2, Expr, constant, one, two}
 use Rattle.arith.proofs.Words.{addW-word, subW-word, mulW-word, divW-word}
 use Rattle.arith.proofs.Operation.{divide-either, with-one-has, with-both-has}
 use Rattle.numbering.specs.declared.ValNum.{ValNum}

@@ -2,10 +2,10 @@
 use Prim.Native.Nat.{ℕ, _+_, _-_}
 use mathlib.Core.Path.{_≡_, refl}
 use mathlib.Core.List.{List, [], _∷_, _++_, map}
-use mathlib.Core.Option.{none, some}
+use mathlib.Core.Option.{some}
 use Rattle.arith.specs.Word.{W, least, minus-one}
 use Rattle.record.specs.Record.{nm, Instr, type-in}
-use Rattle.record.specs.Short.{gives, asks, set, does}
+use Rattle.record.specs.Short.{gives, set, does}
 use Rattle.numbering.specs.State.{vn, start}
 use Rattle.numbering.specs.Shared.{behind}
 use Rattle.numbering.specs.Turns.{Row, turned, ints}

@@ -59,11 +59,11 @@ use Rattle.numbering.proofs.Greater.{greater-is-less, greater-equal-is-less-equ
 use Rattle.numbering.proofs.NoGreater.{none-greater}
 use Rattle.numbering.proofs.Shared.{shared-number}
 use Rattle.numbering.proofs.Quotient.{quotient-simplified, stays-by-zero, quotient-is-constant}
-use Rattle.machine.specs.Machine.{Store, Context, Answer, at-unset, at-division, Mach, goes, ends, tick, assign, step, run}
+use Rattle.machine.specs.Machine.{Store, Context, Answer, at-unset, at-division, Mach, goes, ends, tick, assign, step, stopped, run}
 use Rattle.machine.specs.Reached.{read-no-unset}
 use Rattle.pairing.specs.Demand.{shown, stop, Agree, TypedStore, Starts, RunAlike, SavesBounded, All}
 use Rattle.pairing.specs.Contract.{Accepted}
-use Rattle.pairing.specs.Progress.{Progress}
+use Rattle.pairing.specs.Progress.{DividesByZero, Progress}
 use Rattle.pairing.proofs.Accepted.{accepted-fit}
 use Rattle.pairing.proofs.Progress.{progress, read-then-quiet, quiet-then-read}
 use Rattle.pairing.proofs.Functions.{fit-blocks, saves-bounded, demand3}
@@ -85,9 +85,10 @@ ends-so-alone = ends-alone
 pub runs-alike : (s : List ℕ) (r : Record Placed) → Accepted s r → RunAlike (function (plain r)) (lvn (function (plain r)))
 runs-alike s r a = demand3 (function (plain r)) (accepted-fit s (a .bytes) r (a .end) (a .accepted))
 
--- Progress: whatever the answers and the number of blocks, a run of an accepted function from a typed store leaves the store typed; and
--- where it has stopped as unset, the instruction at that place has an argument that holds nothing. So no operation on values, no branch
--- and no event stops as unset for another reason. That the function's arguments are set is not asked.
+-- Progress: whatever the answers and the number of blocks, a run of an accepted function from a typed store leaves the store typed;
+-- where it has stopped as unset, the instruction at that place has an argument that holds nothing, and where it has stopped in a division,
+-- that instruction is one by 0. So no operation on values, no branch and no event stops so for another reason. That the function's
+-- arguments are set is not asked.
 pub runs-progress :
     (s : List ℕ) (r : Record Placed) → Accepted s r → (σ : Store) → TypedStore (function (plain r)) σ →
     (answers : List Answer) (n : ℕ) → Progress (function (plain r)) (run (function (plain r)) σ answers n)
@@ -325,6 +326,13 @@ pub division-stops :
     (ctx : Context) (m : Mach) (id x a b k n : ℕ) → m .store (nm a) ≡ some (int k) → m .store (nm b) ≡ some (int n) → n ≡ 0 →
     step ctx (gives id x 4 (a ∷ b ∷ [])) m ≡ ends (at-division id by-zero) (tick m)
 division-stops = zero-step
+
+-- So where a run of an accepted function has stopped in a division, a division of that id stands there, and its divisor holds 0.
+pub runs-stop-by-zero :
+    (s : List ℕ) (r : Record Placed) → Accepted s r → (σ : Store) → TypedStore (function (plain r)) σ →
+    (answers : List Answer) (n b p k : ℕ) (c : Cause) → run (function (plain r)) σ answers n .place ≡ stopped (at-division k c) b p →
+    DividesByZero (type-in (function (plain r) .types)) (function (plain r) .blocks) (run (function (plain r)) σ answers n .mach .store) b p k
+runs-stop-by-zero s r a σ h answers n = runs-progress s r a σ h answers n .division
 
 -- "simplify folds it when both are known", over what is known of each number;
 pub known-division-folds :

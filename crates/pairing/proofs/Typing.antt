@@ -1,8 +1,8 @@
 -- An expression of typed names has a value of the destination's type, where it has one. Rests on the range of the results of words.
 use Prim.Native.Nat.{ℕ, _<_}
-use mathlib.Core.Path.{_≡_, refl, subst}
-use mathlib.Core.Bool.{Bool, true, false, not, cond, _&&_}
-use mathlib.Core.Option.{Option, none, some}
+use mathlib.Core.Path.{_≡_, subst}
+use mathlib.Core.Bool.{Bool, true, false, not, _&&_}
+use mathlib.Core.Option.{Option, some}
 use lib.Ieee.Fits.{and-l}
 use lib.Dec.{T, ltb, eqb, eqb→eq, lt→ltb}
 use Rattle.arith.specs.declared.One.the-variants.{Not, Id}
@@ -10,7 +10,7 @@ use Rattle.arith.specs.declared.Two.{Two}
 use Rattle.arith.specs.declared.Two.the-variants.{Add, Sub, Mul, Div, Eq, Lt, Gt, Le, Ge, And, Or, PtrAdd}
 use Rattle.arith.specs.Word.{W, addW, subW, mulW, divW}
 use Rattle.arith.specs.Value.{tint, tbool, is-pointer, Val, int, float, literal, char, bool, pointer, typeOf, inRange, HasType}
-use Rattle.arith.specs.Operation.{Result, ok, stops, unset, asInt, asBool, ints, bools, with-one, with-both, divide, shift, apply1, apply2, Expr, constant, one, two, eval}
+use Rattle.arith.specs.Operation.{Result, ok, stops, unset, asInt, asBool, ints, bools, divide, shift, apply1, apply2, Expr, constant, one, two, eval}
 use Rattle.arith.proofs.Words.{addW-word, subW-word, mulW-word, divW-word}
 use Rattle.arith.proofs.Operation.{divide-either, with-one-has, with-both-has}
 use Rattle.record.specs.declared.NameIx.{NameIx}

@@ -185,7 +185,7 @@ dividing i j =
 abbrev pub stop-id : Case
 stop-id = dividing (div 2 3 0 1) (div 3 3 0 1)
 
--- -2^63 by 0, which stops, and by -1, which passes on and sets name 0 to what it holds: so another block is passed too
+-- -2^63 by 0, which stops, and by -1, which passes on and sets name 0 to what it holds: a block more is passed too
 abbrev pub stop-or-passes : Case
 stop-or-passes = dividing (div 2 0 0 1) (div 2 0 0 2)
 
