@@ -1,4 +1,5 @@
--- Laws of the operations on values: what a result that is not unset tells of the operands, and which operators commute.
+-- Laws of the operations on values: which divisions stop, what a result that is not unset tells of the operands, and which operators
+-- commute.
 use Prim.Native.Nat.{ℕ}
 use mathlib.Core.Path.{_≡_, refl, sym, ap, subst, subst₂}
 use mathlib.Core.Logic.{_≢_, _↔_}

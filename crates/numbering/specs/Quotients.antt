@@ -58,7 +58,7 @@ at-the-edge =
 -- ---- one operand known; saves; what is behind the division
 abbrev pub around : List Row
 around =
-    -- a is an argument: b = -1; x = div a b, and a = -2^63; x = div a b for an argument b
+    -- a is an argument: b = -1; x = div a b. a and b are arguments: c = -2^63; x = div c b
     (1, ints, set 1 1 0 minus-one ∷ gives 2 3 4 (0 ∷ 1 ∷ []) ∷ [], set 1 1 0 minus-one ∷ gives 2 3 4 (0 ∷ 1 ∷ []) ∷ []) ∷
     (2, ints, set 1 2 0 least ∷ gives 2 3 4 (2 ∷ 1 ∷ []) ∷ [], set 1 2 0 least ∷ gives 2 3 4 (2 ∷ 1 ∷ []) ∷ []) ∷
     -- a is an argument, and is what is set: c = -2^63; b = -1; a = div c b: a is saved, and then the const
@@ -83,7 +83,7 @@ around =
       set 1 0 0 least ∷ set 2 1 0 minus-one ∷ gives 3 3 4 (0 ∷ 1 ∷ []) ∷ gives 4 4 13 (3 ∷ []) ∷ [],
       set 1 0 0 least ∷ set 2 1 0 minus-one ∷ set 3 3 0 least ∷ set 4 4 0 least ∷ [],
     ) ∷
-    -- a = -2^63; b = 0; x = div a b; y = div a b; y = div x a: the second is the same value, and neither is known
+    -- a = -2^63; b = 0; x = div a b; y = div a b; z = div y a: y has the value of x, which is not known
     (
       0,
       ints,
