@@ -104,6 +104,7 @@ pub fn check_operands(s: &[u8], at: usize, sh: Shape, n: u64, b: u64) -> Next
             return Next::Refused(k, o);
         }
     }
+    let count = read_shapes::count_from(sh, s, p);
     match arguments_if(!sh.literal, s, p, sh, n) {
         Next::At(q) => {
             p = q;
@@ -120,7 +121,7 @@ pub fn check_operands(s: &[u8], at: usize, sh: Shape, n: u64, b: u64) -> Next
             return Next::Refused(k, o);
         }
     }
-    read_fields::indexes_at(s, p, sh.blocks as u64, b)
+    read_fields::indexes_at(s, p, read_shapes::targets(sh, count), b)
 }
 
 // An instruction whose id has w bytes, in the last place of its block or before it.

@@ -1,6 +1,7 @@
 -- What the operands of an instruction are by their place, what each rule asks of them, and that each code's rule fits its shape.
-use Prim.Native.Nat.{ℕ, zero, suc, _+_, _*_, _<_, _≤_}
+use Prim.Native.Nat.{ℕ, zero, suc, _+_, _-_, _*_, _<_, _≤_}
 use mathlib.Core.Path.{_≡_, refl, sym, ap, _∙_, subst}
+use mathlib.Core.Logic.{_≢_}
 use mathlib.Core.List.{List, [], _∷_, map}
 use mathlib.Core.Option.{Option, none, some}
 use mathlib.Core.Bool.{Bool, true, false, cond, not, _&&_, and-assoc, and-true, and-false}
@@ -8,7 +9,7 @@ use native.Mathlib.Omega.{arith}
 use native.Mathlib.Decide.{decLt}
 use lib.ListN.{getD, drop}
 use lib.Dec.{eqb}
-use borrow.Author.Tests.{ne-eqb}
+use borrow.Author.Tests.{ne-eqb, eq-eqb}
 use Rattle.arith.specs.Value.{tint, tbool, is-pointer}
 use Rattle.record.specs.declared.NameIx.{NameIx}
 use Rattle.record.specs.declared.Shape.{Shape}
@@ -17,11 +18,12 @@ use Rattle.record.specs.Shape.{shape-of}
 use Rattle.record.specs.Text.{same-bytes}
 use Rattle.record.specs.Reader.{num-at}
 use Rattle.record.specs.Typing as typing
-use Rattle.record.specs.Typing.{free, fits-dest, copies, shifts, allocates, loads, stores, frees, branches, takes, rules, literal-fits, points-to, obeys, well-typed}
+use Rattle.record.specs.Typing.{free, fits-dest, copies, shifts, allocates, loads, joins, stores, frees, branches, takes, rules, literal-fits, points-to, each-is, obeys, well-typed}
 use Rattle.record.specs.Decode.{items, behind, two-on, index-from, operands-from, instr-from}
 use Rattle.record.proofs.Tests.{and-left, and-right}
 use Rattle.record.proofs.Decode.{item-at, item-past, behind-two}
 use Rattle.record.proofs.Form.{row-beyond, all-below-at}
+use Rattle.record.proofs.Rows.{one-more}
 use Rattle.record.proofs.Following.{ends-below, row-found}
 use Rattle.check_rules.specs.declared.Rule.{Rule}
 use Rattle.check_rules.specs.Rules.{rule, code-rule, args-from, Kept}
@@ -96,6 +98,24 @@ module _ (f : NameIx → ℕ) (one : ℕ → NameIx) (next : ℕ → ℕ) (a : �
       rw (ne-eqb (suc (suc (suc n))) 2 (λ e. omega arith))
       (ap (λ (b : Bool). eqb (f (one p)) a && b) (and-false (eqb (f (one (next p))) a)) ∙ and-false (eqb (f (one p)) a))
 
+-- ---- arguments of one type, of which some are left
+module _ (f : NameIx → ℕ) (one : ℕ → NameIx) (next : ℕ → ℕ) (t p left : ℕ) where
+  pub each-done : left ≡ 0 → true ≡ each-is t (map f (items one next p left))
+  unfolding items each-is
+  each-done z = sym (ap (λ (n : ℕ). each-is t (map f (items one next p n))) z)
+
+  -- x: the type of the first of them
+  module _ (x : ℕ) (e : x ≡ f (one p)) (h : 0 < left) where
+    first-is : each-is t (map f (items one next p left)) ≡ (eqb x t && each-is t (map f (items one next (next p) (left - 1))))
+    unfolding items each-is
+    first-is = rw e (ap (λ (n : ℕ). each-is t (map f (items one next p n))) (one-more left h))
+
+    pub each-other : x ≢ t → false ≡ each-is t (map f (items one next p left))
+    each-other g = rw (first-is, ne-eqb x t g)
+
+    pub each-went : x ≡ t → each-is t (map f (items one next (next p) (left - 1))) ≡ each-is t (map f (items one next p left))
+    each-went g = rw (first-is, eq-eqb x t g)
+
 -- ---- the rules; t: the type of dest, x and y: those of the arguments
 module _ (types s : List ℕ) (at t x y : ℕ) (r : Bool) where
   abbrev Dest : Type 0
@@ -141,6 +161,12 @@ module _ (types s : List ℕ) (at t x y : ℕ) (r : Bool) where
   unfolding obeys
   kept-branches ex h sh id code d l = rw (args-alone sh s at id code d l, ← ex) h
 
+  pub kept-joins :
+      (n : ℕ) → n ≡ num-at s (at + 2) 1 → Dest → r ≡ each-is t (map (type-in types) (items (index-from s) two-on (at + 2 + 1) n)) →
+      Kept r joins true false types s at
+  unfolding obeys args-from
+  kept-joins n en et h sh id code d l = rw (dest-is sh s at id code d, args-valued sh s at id code d l, ← et, ← en) h
+
   -- n: the count of the arguments
   module _ (n a b : ℕ) (en : n ≡ num-at s (at + 2) 1) where
     pub kept-one : Dest → First (at + 2) → r ≡ (eqb n 1 && (eqb x a && eqb t b)) → Kept r (takes (a ∷ []) b) true false types s at
@@ -168,6 +194,7 @@ parts copies = some (true, false)
 parts shifts = some (true, false)
 parts allocates = some (true, false)
 parts loads = some (true, false)
+parts joins = some (true, false)
 parts stores = some (false, false)
 parts frees = some (false, false)
 parts branches = some (false, false)

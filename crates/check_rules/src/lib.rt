@@ -2,14 +2,14 @@
 // All reads are total, 0 past the end. types: the type byte of each name.
 ghost use mathlib.Core.Path.{_≡_};
 ghost use mathlib.Core.Bool.{true, false};
-ghost use mathlib.Core.List.{[], _∷_};
+ghost use mathlib.Core.List.{[], _∷_, map};
 ghost use Prim.Native.Nat.{_+_, _*_, _<_, _≤_};
 ghost use lib.ListN.{getD};
 ghost use Rattle.record.specs.Record.{nm, type-in};
-ghost use Rattle.record.specs.Typing.{fits-dest, copies, shifts, allocates, loads, stores, frees, branches, takes, well-typed};
-ghost use Rattle.record.specs.Decode.{index-from, instr-from};
+ghost use Rattle.record.specs.Typing.{fits-dest, copies, shifts, allocates, loads, joins, stores, frees, branches, takes, each-is, well-typed};
+ghost use Rattle.record.specs.Decode.{items, two-on, index-from, instr-from};
 ghost use Rattle.read_fields.specs.Places.{places};
-ghost use Rattle.check_rules.specs.Rules.{rule, code-rule, args-from, Kept};
+ghost use Rattle.check_rules.specs.Rules.{rule, code-rule, args-from, joins-reach, Kept};
 
 // What a code asks of the types of its dest and its arguments. TakesOne: an argument of the first type, a dest of the second.
 // TakesTwo: two arguments of the first type, a dest of the second.
@@ -20,6 +20,7 @@ pub enum Rule {
     Shifts,
     Allocates,
     Loads,
+    Joins,
     Stores,
     Frees,
     Branches,
@@ -55,9 +56,9 @@ fn pure_rule(code: u64) -> Rule
     }
 }
 
-// Codes 20 to 38.
+// Codes 20 to 39.
 fn new_rule(code: u64) -> Rule
-    requires { ⌜ (20 ≤ code) × (code ≤ 38) ⌝ }
+    requires { ⌜ (20 ≤ code) × (code ≤ 39) ⌝ }
     ensures { λ r. ⌜ rule r ≡ code-rule code ⌝ }
 {
     match code {
@@ -68,7 +69,8 @@ fn new_rule(code: u64) -> Rule
         35 => Rule::TakesOne(CHAR, INT),
         36 => Rule::TakesOne(INT, CHAR),
         37 => Rule::Allocates,
-        _ => Rule::Loads,
+        38 => Rule::Loads,
+        _ => Rule::Joins,
     }
 }
 
@@ -91,7 +93,7 @@ pub fn rule_of(code: u64) -> Rule
 {
     match code {
         0..=14 => pure_rule(code),
-        20..=38 => new_rule(code),
+        20..=39 => new_rule(code),
         64..=71 => effect_rule(code),
         _ => Rule::Free,
     }
@@ -166,6 +168,33 @@ pub fn loads(s: &[u8], types: &[u8], at: usize) -> bool
     arg_type(s, types, at + 2, 0) == index_type(s, types, at) + POINTER
 }
 
+// Whether each of the n names whose indexes stand from a place on is of type t.
+fn each_is(s: &[u8], types: &[u8], at: usize, n: u64, t: u64) -> bool
+    requires { ⌜ at + 2 * n < places ⌝ }
+    ensures { λ r. ⌜ r ≡ each-is t (map (type-in (now (types .entry))) (items (index-from (now (s .entry))) two-on at n)) ⌝ }
+{
+    let mut p = at;
+    let mut left = n;
+    while left > 0 {
+        if index_type(s, types, p) != t {
+            return false;
+        }
+        p += 2;
+        left -= 1;
+    }
+    true
+}
+
+// phi: each argument has dest's type. There are as many as one byte can count.
+pub fn joins(s: &[u8], types: &[u8], at: usize) -> bool
+    requires { ⌜ at + joins-reach < places ⌝ }
+    ensures { λ r. ⌜ Kept r joins true false (now (types .entry)) (now (s .entry)) at ⌝ }
+{
+    let n = read_fields::byte_or(s, at + 2);
+    let t = index_type(s, types, at);
+    each_is(s, types, at + 2 + 1, n, t)
+}
+
 // A pointer and what it points to; no dest stands before the arguments.
 pub fn stores(s: &[u8], types: &[u8], at: usize) -> bool
     requires { ⌜ at + 6 < places ⌝ }
@@ -216,7 +245,7 @@ pub fn takes_two(s: &[u8], types: &[u8], at: usize, a: u64, d: u64) -> bool
 // ---- an instruction
 // Whether the instruction at a place keeps to the rule of its code; w: the bytes of an id.
 pub fn typed_at(s: &[u8], types: &[u8], w: usize, at: usize) -> bool
-    requires { ⌜ (w ≤ 8) × (at + 15 < places) ⌝ }
+    requires { ⌜ (w ≤ 8) × (at + 9 + joins-reach < places) ⌝ }
     ensures { λ r. ⌜ r ≡ well-typed (type-in (now (types .entry))) (instr-from w (now (s .entry)) at) ⌝ }
 {
     let p = at + w + 1;
@@ -227,6 +256,7 @@ pub fn typed_at(s: &[u8], types: &[u8], w: usize, at: usize) -> bool
         Rule::Shifts => shifts(s, types, p),
         Rule::Allocates => allocates(s, types, p),
         Rule::Loads => loads(s, types, p),
+        Rule::Joins => joins(s, types, p),
         Rule::Stores => stores(s, types, p),
         Rule::Frees => frees(s, types, p),
         Rule::Branches => branches(s, types, p),

@@ -37,7 +37,7 @@ pub fn save_instr(i: Instruction, made: NameIx) -> Instruction
         count: 1,
         args: [x.0, 0, 0, 0, 0, 0, 0, 0],
         callee: 0,
-        blocks: [0; 2],
+        blocks: [0; 8],
     }
 }
 

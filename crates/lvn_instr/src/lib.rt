@@ -206,7 +206,7 @@ pub fn make_const_instr(i: Instruction, c: Constant) -> Instruction
         count: 0,
         args: [0; 8],
         callee: 0,
-        blocks: [0; 2],
+        blocks: [0; 8],
     }
 }
 
@@ -224,7 +224,7 @@ pub fn make_one_instr(homes: &[u16], i: Instruction, o: One, a: ValNum) -> Instr
         count: 1,
         args: [x.0, 0, 0, 0, 0, 0, 0, 0],
         callee: 0,
-        blocks: [0; 2],
+        blocks: [0; 8],
     }
 }
 
@@ -246,7 +246,7 @@ pub fn make_two_instr(homes: &[u16], i: Instruction, o: Two, a: ValNum, b: ValNu
         count: 2,
         args: [x.0, y.0, 0, 0, 0, 0, 0, 0],
         callee: 0,
-        blocks: [0; 2],
+        blocks: [0; 8],
     }
 }
 

@@ -1,5 +1,5 @@
 -- Runs of the machine, computed: an input and its rewriting side by side, with what they did and how many steps they took.
-use Prim.Native.Nat.{ℕ, suc}
+use Prim.Native.Nat.{ℕ, suc, _-_}
 use mathlib.Core.Path.{_≡_, refl}
 use mathlib.Core.Bool.{Bool, true, false}
 use mathlib.Core.List.{List, [], _∷_, _++_, map}
@@ -9,7 +9,7 @@ use Rattle.arith.specs.Value.{Val, int, bool, pointer}
 use Rattle.arith.specs.Operation.{by-zero}
 use Rattle.record.specs.Record.{nm, Placed, Record, Function, function, plain, wide}
 use Rattle.record.specs.Reader.{Res, got, fault}
-use Rattle.record.specs.Samples.{division, division-rewritten, call, call-rewritten, loop, loop-rewritten, walk, comparison, comparison-rewritten, quotient, quotient-rewritten}
+use Rattle.record.specs.Samples.{division, division-rewritten, call, call-rewritten, loop, loop-rewritten, walk, comparison, comparison-rewritten, quotient, quotient-rewritten, join, join-rewritten}
 use Rattle.arith.specs.Word.{W, least, minus-one}
 use Rattle.record.specs.Typing.{accept}
 use Rattle.machine.specs.Machine.{Store, Answer, value, go-on, halt, Event, at-end, at-ret, at-halt, at-unset, at-division, Place, before, stopped, Run, run}
@@ -142,9 +142,32 @@ stops-by-zero =
     (quotient-rewritten, start, go-on ∷ [], 2, end (start ++ (none ∷ none ∷ none ∷ none ∷ []))) ∷
     []
 
+-- a loop with phi, passed twice: its argument k, which the rewriting has as j, holds the same; each pass has two saves
+abbrev pub joins-twice : List Case
+joins-twice =
+    let vs : List (Option Val) = some (int 2) ∷ [] in
+    let xs : List Answer = value (int (W - 5)) ∷ value (int 7) ∷ halt ∷ [] in
+    let es : List Event = event 4 39 0 (int 0 ∷ int 0 ∷ []) ∷ event 4 39 0 (int (W - 5) ∷ int (W - 3) ∷ []) ∷ event 8 66 0 (int 7 ∷ []) ∷ [] in
+    let held : List (Option Val) = some (int 2) ∷ some (int 7) ∷ some (int 9) ∷ some (int (W - 3)) ∷ some (bool false) ∷ [] in
+    let end : List (Option Val) → ℕ → Summary = shows (stopped at-ret 2 0) (1 ∷ 1 ∷ 0 ∷ []) es (halt ∷ []) in
+    (join, vs, xs, 5, end held 13) ∷
+    (join-rewritten, vs, xs, 5, end (held ++ (some (int (W - 5)) ∷ some (int (W - 3)) ∷ [])) 17) ∷
+    []
+
+-- an answer that does not fit: a bool for the int that phi gives
+abbrev pub joins-unfit : List Case
+joins-unfit =
+    let vs : List (Option Val) = some (int 2) ∷ [] in
+    let es : List Event = event 4 39 0 (int 0 ∷ int 0 ∷ []) ∷ [] in
+    let held : List (Option Val) = some (int 2) ∷ some (int 0) ∷ some (int 0) ∷ some (int 0) ∷ none ∷ [] in
+    let end : ℕ → List (Option Val) → ℕ → Summary = λ p. shows (stopped at-halt 1 p) (0 ∷ []) es [] in
+    (join, vs, value (bool true) ∷ [], 5, end 1 held 4) ∷
+    (join-rewritten, vs, value (bool true) ∷ [], 5, end 2 (held ++ (some (int 0) ∷ none ∷ [])) 5) ∷
+    []
+
 abbrev pub cases : List Case
 cases =
-    stops-in-division ++ (halts ++ (jumps-back ++ (walks ++ (unset-stops ++ (compare-alike ++ (passes-on ++ stops-by-zero))))))
+    stops-in-division ++ (halts ++ (jumps-back ++ (walks ++ (unset-stops ++ (compare-alike ++ (passes-on ++ (stops-by-zero ++ (joins-twice ++ joins-unfit))))))))
 
 pub samples-run : map (λ c. runs (c .0) (c .1) (c .2) (c .3)) cases ≡ map (λ c. c .4) cases
 unfolding all-of-machine

@@ -14,7 +14,7 @@ use Rattle.record.specs.Form.{Form, pure, new, effect, return, nop, jump, branc
 abbrev pub Store : Type 0
 Store = NameIx → Option Val
 
--- what a machine is told of a function: the types of its names, and which of the codes 20 to 38 it performs itself
+-- what a machine is told of a function: the types of its names, and which of the codes 20 to 39 it performs itself
 pub record Context : Type 0 where
   pub types : NameIx → ℕ
   pub performs : ℕ → List Val → Option Val

@@ -9,7 +9,7 @@ use Rattle.arith.specs.Operation.{by-zero}
 use Rattle.arith.specs.Value.{Val, int, float, literal, char, bool, pointer}
 use Rattle.arith.specs.Word.{W, least, minus-one}
 use Rattle.record.specs.Record.{Instr, Function}
-use Rattle.record.specs.Short.{gives, asks, set, does, tells, chooses, goes}
+use Rattle.record.specs.Short.{gives, asks, joins, set, does, tells, chooses, goes}
 use Rattle.record.specs.Tables.{count, numerals}
 use Rattle.machine.specs.Machine.{Answer, value, go-on, halt, Event, Stop, at-end, at-ret, at-halt, at-unset, at-division, Place, before, stopped, run}
 use Rattle.machine.specs.Examples.{Summary, summary, store-of, event, shows}
@@ -70,15 +70,29 @@ events-in-order =
     (some p ∷ some (int 6) ∷ []) 4 ∷
     []
 
--- each of the codes 20 to 38 asks, and each of the effects 67, 68, 70, 71 tells
+-- each of the codes 20 to 39 asks, and each of the effects 67, 68, 70, 71 tells
 abbrev pub codes-with-events : List Case
 codes-with-events =
     let five : List (Option Val) = some (int 5) ∷ [] in
     let told : ℕ → List Event = λ c. event 1 c 0 (int 5 ∷ []) ∷ [] in
     map
     (λ c. one-block (0x00 ∷ 0x00 ∷ []) (gives 1 1 c (0 ∷ []) ∷ []) five (value (int 6) ∷ []) (told c) (some (int 5) ∷ some (int 6) ∷ []) 1)
-    (count 20 19) ++
+    (count 20 20) ++
     map (λ c. one-block (0x00 ∷ []) (does 1 c (0 ∷ []) ∷ []) five (go-on ∷ []) (told c) five 1) (67 ∷ 68 ∷ 70 ∷ 71 ∷ [])
+
+-- ---- phi: "an event over all its argument values", in order and with the callee 0, whatever its blocks; of none, of a name twice and of itself
+abbrev pub phi-events : List Case
+phi-events =
+    let vs : Option Val → List (Option Val) = λ x. some (int 5) ∷ some (int 6) ∷ x ∷ [] in
+    let phi : List (ℕ × ℕ) → List Val → Case =
+    λ xbs read. one-block (0x00 ∷ 0x00 ∷ 0x00 ∷ []) (joins 1 2 xbs ∷ []) (vs (some (int 7))) (value (int 8) ∷ []) (event 1 39 0 read ∷ []) (vs (some (int 8))) 1 in
+    phi [] [] ∷
+    phi ((1, 0) ∷ []) (int 6 ∷ []) ∷
+    phi ((1, 0) ∷ (0, 9) ∷ (1, 1) ∷ []) (int 6 ∷ int 5 ∷ int 6 ∷ []) ∷
+    phi ((0, 0) ∷ (2, 0) ∷ []) (int 5 ∷ int 7 ∷ []) ∷
+    phi ((0, 0) ∷ (1, 0) ∷ (2, 0) ∷ (0, 0) ∷ (1, 0) ∷ (2, 0) ∷ (0, 0) ∷ (1, 0) ∷ [])
+    (int 5 ∷ int 6 ∷ int 7 ∷ int 5 ∷ int 6 ∷ int 7 ∷ int 5 ∷ int 6 ∷ []) ∷
+    []
 
 -- ---- an instruction that stops a run at once, with nop behind it: the stop, its event or none, and the answers that are left
 abbrev pub stops-run : List (Option Val) → Instr → List Answer → Stop → List Event → List Answer → Case
@@ -103,6 +117,11 @@ halting-answers =
     halts (asks 1 0 7 []) (event 1 20 7 []) (go-on ∷ halt ∷ []) (halt ∷ []) ∷
     halts (asks 1 0 7 []) (event 1 20 7 []) (value (bool true) ∷ go-on ∷ []) (go-on ∷ []) ∷
     halts (asks 1 0 7 []) (event 1 20 7 []) [] [] ∷
+    -- a = phi a, from block 0: the same
+    halts (joins 1 0 ((0, 0) ∷ [])) (event 1 39 0 (int 5 ∷ [])) (halt ∷ go-on ∷ []) (go-on ∷ []) ∷
+    halts (joins 1 0 ((0, 0) ∷ [])) (event 1 39 0 (int 5 ∷ [])) (go-on ∷ halt ∷ []) (halt ∷ []) ∷
+    halts (joins 1 0 ((0, 0) ∷ [])) (event 1 39 0 (int 5 ∷ [])) (value (bool true) ∷ go-on ∷ []) (go-on ∷ []) ∷
+    halts (joins 1 0 ((0, 0) ∷ [])) (event 1 39 0 (int 5 ∷ [])) [] [] ∷
     -- print a: halt, a value, none left
     halts (does 1 68 (0 ∷ [])) (event 1 68 0 (int 5 ∷ [])) (halt ∷ go-on ∷ []) (go-on ∷ []) ∷
     halts (does 1 68 (0 ∷ [])) (event 1 68 0 (int 5 ∷ [])) (value (int 5) ∷ halt ∷ []) (halt ∷ []) ∷
@@ -122,9 +141,11 @@ unset i = stops-run (none ∷ some (int 0) ∷ []) i (go-on ∷ []) at-unset [] 
 
 abbrev pub read-first : List Case
 read-first =
-    -- id x; call (x); print y x; ret x; br x; div x y, where y is 0; div y x
+    -- id x; call (x); phi x; phi y x, of which Bril would read but one; print y x; ret x; br x; div x y, where y is 0; div y x
     unset (gives 1 1 13 (0 ∷ [])) ∷
     unset (asks 1 1 7 (0 ∷ [])) ∷
+    unset (joins 1 1 ((0, 0) ∷ [])) ∷
+    unset (joins 1 1 ((1, 0) ∷ (0, 1) ∷ [])) ∷
     unset (does 1 68 (1 ∷ 0 ∷ [])) ∷
     unset (does 1 66 (0 ∷ [])) ∷
     unset (chooses 1 0 0 0) ∷
@@ -198,7 +219,7 @@ ways =
 
 abbrev pub cases : List Case
 cases =
-    no-blocks ++ (events-in-order ++ (codes-with-events ++ (halting-answers ++ (returns ++ (read-first ++ (literal-in-a-float ++ (computed ++ ways)))))))
+    no-blocks ++ (events-in-order ++ (codes-with-events ++ (phi-events ++ (halting-answers ++ (returns ++ (read-first ++ (literal-in-a-float ++ (computed ++ ways))))))))
 
 pub run-so : map (λ c. ran (c .types) (c .blocks) (c .values) (c .answers) (c .asked)) cases ≡ map (λ c. c .shows) cases
 unfolding all-of-machine count numerals

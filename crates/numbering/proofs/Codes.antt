@@ -19,7 +19,7 @@ use Rattle.record.specs.Form.{Form, pure, new, effect, return, nop, jump, branc
 use Rattle.record.specs.Tests.{count-test}
 use Rattle.record.specs.Good.{There, Each, IndexOk, ArgsOk, OperandsOk, InstrOk}
 use Rattle.record.proofs.Tests.{below-lt, count-few, count-most, code-known}
-use Rattle.record.proofs.Form.{FormOf, of-constant, of-one, of-two, of-new, of-jump, of-branch, of-return, of-nop, of-effect, form-of, one-shape, two-shape, all-below, at-known}
+use Rattle.record.proofs.Form.{FormOf, of-constant, of-one, of-two, of-new, of-jump, of-branch, of-return, of-nop, of-effect, form-of, recode, one-shape, two-shape, all-below, at-known}
 use Rattle.numbering.specs.Number.{reads}
 use Rattle.numbering.proofs.Saves.{Dests, Original, Originals}
 
@@ -72,10 +72,6 @@ gives-value (return xs) = false
 gives-value nop = false
 gives-value (jump b) = false
 gives-value (branch a b c) = false
-
--- i with another code
-abbrev recode : Instr → ℕ → Instr
-recode i c = record { id = i .id; code = c; dest = i .dest; lit = i .lit; args = i .args; callee = i .callee; blocks = i .blocks }
 
 -- the code has a dest where the form of i with it gives a value
 abbrev agrees : (NameIx → ℕ) → Instr → ℕ → Bool

@@ -22,3 +22,4 @@ pub mod Greater
 pub mod NoGreater
 pub mod Shared
 pub mod Quotient
+pub mod Phi

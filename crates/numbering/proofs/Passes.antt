@@ -17,7 +17,7 @@ use Rattle.record.specs.declared.Shape.{Shape}
 use Rattle.record.specs.declared.Refusal.the-variants.{Code, Place}
 use Rattle.record.specs.declared.Test.the-variants.{Passes}
 use Rattle.record.specs.Record.{nm, Instr}
-use Rattle.record.specs.Shape.{shape-of, const, value}
+use Rattle.record.specs.Shape.{targets, shape-of, const, value}
 use Rattle.record.specs.Form.{Form, pure, new, effect, return, nop, jump, branch, form}
 use Rattle.record.specs.Tests.{need, and-then, at-most, code-test, count-test, literal-test}
 use Rattle.record.specs.Good.{There, Each, IndexOk, LitOk, ArgsOk, OperandsOk, InstrOk}
@@ -192,7 +192,7 @@ replaced-passes N M B left left′ i ys l f e h p =
         lit = p .rest .lit;
         args = args-replaced N M sh (i .args) ys (not (sh .literal)) e h (p .rest .args);
         callee = p .rest .callee;
-        targets = p .rest .targets;
+        targets = ap (targets sh) e ∙ p .rest .targets;
         blocks = p .rest .blocks;
       };
     }

@@ -4,7 +4,7 @@ use mathlib.Core.Path.{_≡_, refl}
 use mathlib.Core.Bool.{true}
 use mathlib.Core.List.{List, [], _∷_, _++_, map}
 use lib.ListN.{replicate}
-use Rattle.record.specs.Samples.{division, division-rewritten, call, call-rewritten, loop, loop-rewritten, walk, walk-rewritten, comparison, comparison-rewritten, quotient, quotient-rewritten}
+use Rattle.record.specs.Samples.{division, division-rewritten, call, call-rewritten, loop, loop-rewritten, walk, walk-rewritten, comparison, comparison-rewritten, quotient, quotient-rewritten, join, join-rewritten}
 use Rattle.record.specs.Hex.{hex}
 use Rattle.record.specs.Text.{same-bytes}
 use Rattle.numbering.specs.Program.{output-with}
@@ -33,7 +33,7 @@ unfolding all-of-numbering
 answers = refl
 
 abbrev pub prints : List ℕ → List ℕ
-prints s = output-with (replicate 124 0xEE) s
+prints s = output-with (replicate 180 0xEE) s
 
 -- what rewrite leaves in these outputs, and what the program writes
 pub leaves :
@@ -61,7 +61,8 @@ pub samples :
     same-bytes (prints walk) walk-rewritten ∷
     same-bytes (prints comparison) comparison-rewritten ∷
     same-bytes (prints quotient) quotient-rewritten ∷
+    same-bytes (prints join) join-rewritten ∷
     [] ≡
-    true ∷ true ∷ true ∷ true ∷ true ∷ true ∷ []
+    true ∷ true ∷ true ∷ true ∷ true ∷ true ∷ true ∷ []
 unfolding all-of-numbering
 samples = refl

@@ -16,6 +16,7 @@ pub mod Folds
 pub mod Turns
 pub mod Swapped
 pub mod Quotients
+pub mod Phis
 pub mod Entries
 pub mod Foreseen
 pub mod Parts

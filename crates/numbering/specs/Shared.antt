@@ -1,14 +1,14 @@
--- "gt a b and lt b a to share a number" (document 02, Point 2), said of any two places of a block. That it is so is proved in
--- proofs/Shared.antt.
-use Prim.Native.Nat.{ℕ}
+-- "gt a b and lt b a to share a number" (document 02, Point 2), said of any two places of a block, and "a new number" (Point 5). That it is
+-- so is proved in proofs/Shared.antt and proofs/Phi.antt.
+use Prim.Native.Nat.{ℕ, suc}
 use mathlib.Core.Path.{_≡_}
 use mathlib.Core.List.{List, [], _∷_}
-use mathlib.Core.Option.{some}
+use mathlib.Core.Option.{none, some}
 use Rattle.record.specs.declared.NameIx.{NameIx}
 use Rattle.record.specs.Record.{nm, Instr}
 use Rattle.record.specs.Short.{gives}
 use Rattle.numbering.specs.declared.ValNum.{ValNum}
-use Rattle.numbering.specs.State.{State}
+use Rattle.numbering.specs.State.{vn, State}
 use Rattle.numbering.specs.Number.{instr-lvn}
 
 -- the state behind some instructions of a block, from the state s before them
@@ -36,3 +36,10 @@ SharesNumber c d N t s is i j x y a b =
     let between = behind N t first is in
     (v w : ValNum) → Have s a b v w → Have between a b v w →
     instr-lvn N t between (gives j y d (b ∷ a ∷ [])) .state .env (nm y) ≡ first .env (nm x)
+
+-- x has got the number n, the next one before s, with x as its home and no value by which another could be found to be the same
+pub record NewNumber (n : ℕ) (x : NameIx) (s : State) : Type 0 where
+  pub number : s .env x ≡ some (vn n)
+  pub home : s .locs (vn n) ≡ x
+  pub value : s .vals (vn n) ≡ none
+  pub next : s .next ≡ suc n

@@ -170,11 +170,11 @@ pub literals-for :
     map (λ (p : ℕ × ℕ). record { kind = p .0; bits = p .1 }) ((0, 7) ∷ (2, 7) ∷ (0, 7) ∷ (3, 7) ∷ (1, 0) ∷ (1, 1) ∷ [])
 literals-for = refl
 
--- ---- values that are new each time: x = c (a, b); y = c (a, b); z = id y, for each of the codes 20 to 38
+-- ---- values that are new each time: x = c (a, b); y = c (a, b); z = id y, for each of the codes 20 to 39
 abbrev pub twice : ℕ → List Instr
 twice c = gives 1 3 c (0 ∷ 1 ∷ []) ∷ gives 2 4 c (0 ∷ 1 ∷ []) ∷ gives 3 5 13 (4 ∷ []) ∷ []
 
-pub new-each-time : map (λ c. turned 2 ints (twice c)) (count 20 19) ≡ map twice (count 20 19)
+pub new-each-time : map (λ c. turned 2 ints (twice c)) (count 20 20) ≡ map twice (count 20 20)
 unfolding all-of-numbering count
 new-each-time = refl
 

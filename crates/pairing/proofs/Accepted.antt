@@ -24,7 +24,7 @@ use Rattle.record.specs.Typing.{well-typed, accept}
 use Rattle.record.specs.Good.{Each, OperandsOk, InstrOk, BlockOk, RecordOk}
 use Rattle.record.specs.Ranged.{RangedInstr, RangedBlock, Ranged}
 use Rattle.record.proofs.Tests.{at-most-le, names-args, code-known, code-last}
-use Rattle.record.proofs.Form.{FormOf, of-constant, of-one, of-two, of-new, of-jump, of-branch, of-return, of-nop, of-effect, form-of, all-below, at-known}
+use Rattle.record.proofs.Form.{FormOf, of-constant, of-one, of-two, of-new, of-jump, of-branch, of-return, of-nop, of-effect, form-of, recode, all-below, at-known}
 use Rattle.record.proofs.Accepted.{read-ok}
 use Rattle.record.proofs.Ranged.{read-ranged}
 use Rattle.record.proofs.Typed.{TypedBody, TypedFunction, accept-typed}
@@ -43,10 +43,6 @@ same-eq : (a b : Bool) → same a b ≡ true → a ≡ b
 same-eq true b e = sym e
 same-eq false true e = e
 same-eq false false e = refl
-
--- i with another code
-abbrev recode : Instr → ℕ → Instr
-recode i c = record { id = i .id; code = c; dest = i .dest; lit = i .lit; args = i .args; callee = i .callee; blocks = i .blocks }
 
 abbrev agree : (NameIx → ℕ) → Instr → ℕ → Bool
 agree t i c = same (shape-of c .last) (terminates (form t (recode i c)))

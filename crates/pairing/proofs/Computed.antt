@@ -1,5 +1,5 @@
 -- Instances of demand 3, computed: functions, stores and answers that meet every premise, with the events and the steps of both runs.
-use Prim.Native.Nat.{ℕ}
+use Prim.Native.Nat.{ℕ, _-_}
 use mathlib.Core.Path.{_≡_, refl}
 use mathlib.Core.Bool.{true, false}
 use mathlib.Core.List.{List, [], _∷_, map}
@@ -7,8 +7,8 @@ use mathlib.Core.Option.{Option, none, some}
 use Rattle.arith.specs.Value.{Val, int, char, bool}
 use Rattle.arith.specs.Operation.{by-zero}
 use Rattle.record.specs.Record.{Instr, Block, limits}
-use Rattle.record.specs.Samples.{division, call, loop, quotient}
-use Rattle.arith.specs.Word.{least, minus-one}
+use Rattle.record.specs.Samples.{division, call, loop, quotient, join}
+use Rattle.arith.specs.Word.{W, least, minus-one}
 use Rattle.record.specs.Hex.{hex}
 use Rattle.record.specs.Typing.{accept}
 use Rattle.numbering.specs.Number.{lvn}
@@ -48,6 +48,19 @@ loop-case = from loop (some (int 2) ∷ some (int minus-one) ∷ some (int 0) �
 abbrev pub quotient-case : Case
 quotient-case = from quotient (some (int least) ∷ some (int minus-one) ∷ none ∷ none ∷ none ∷ []) (go-on ∷ go-on ∷ []) 2
 
+-- a loop with phi passed twice, its two saves counted each time; the first phi answered by a bool
+abbrev pub join-case : Case
+join-case = from join (some (int 2) ∷ none ∷ none ∷ none ∷ none ∷ []) (value (int (W - 5)) ∷ value (int 7) ∷ []) 4
+
+abbrev pub join-unfit : Case
+join-unfit = from join (some (int 2) ∷ none ∷ none ∷ none ∷ none ∷ []) (value (bool true) ∷ []) 4
+
+-- print a | a = phi a x, of which x is not set: "from that block on demand 3 says nothing"
+abbrev pub phi-unset : ℕ → Case
+phi-unset n =
+    from (hex "0000002C 01 01 0002 000161 000178 0002 0001 0000 00000001 44 01 0000 0001 0000 00000002 27 0000 02 0000 0001 0000 0000")
+    (some (int 5) ∷ none ∷ []) (go-on ∷ value (int 6) ∷ []) n
+
 -- print a | print y, which is not set: the first block's runs are alike, and more is not said
 abbrev pub unset-later : ℕ → Case
 unset-later n =
@@ -56,7 +69,8 @@ unset-later n =
 
 -- ---- each meets every premise
 pub cases-alike :
-    Instance c5-case × Instance division-case × Instance call-case × Instance loop-case × Instance quotient-case × Instance (unset-later 1)
+    Instance c5-case × Instance division-case × Instance call-case × Instance loop-case × Instance quotient-case × Instance (unset-later 1) ×
+    Instance join-case × Instance join-unfit × Instance (phi-unset 1)
 unfolding all-of-pairing
 cases-alike = (
   instance c5-case tt,
@@ -65,11 +79,18 @@ cases-alike = (
   instance loop-case tt,
   instance quotient-case tt,
   instance (unset-later 1) tt,
+  instance join-case tt,
+  instance join-unfit tt,
+  instance (phi-unset 1) tt,
 )
 
 pub unset-later-read : map (λ n. meets (unset-later n)) (0 ∷ 1 ∷ 2 ∷ 3 ∷ []) ≡ true ∷ true ∷ false ∷ false ∷ []
 unfolding all-of-pairing
 unset-later-read = refl
+
+pub phi-unset-read : map (λ n. meets (phi-unset n)) (0 ∷ 1 ∷ 2 ∷ 3 ∷ []) ≡ true ∷ true ∷ false ∷ false ∷ []
+unfolding all-of-pairing
+phi-unset-read = refl
 
 -- ---- what the run of the function and the run of its rewriting show; the values are those of the original names
 abbrev both-runs : Case → Summary × Summary
@@ -80,7 +101,7 @@ abbrev alike-but : (Place → ℕ → Summary) → Place → ℕ → Place → �
 alike-but s p n q m = (s p n, s q m)
 
 pub cases-run :
-    map both-runs (c5-case ∷ division-case ∷ call-case ∷ loop-case ∷ quotient-case ∷ []) ≡
+    map both-runs (c5-case ∷ division-case ∷ call-case ∷ loop-case ∷ quotient-case ∷ join-case ∷ join-unfit ∷ []) ≡
     alike-but (λ p n. shows p (0 ∷ []) (event 4 68 0 (int 5 ∷ []) ∷ []) [] (some (int 6) ∷ some (int 5) ∷ []) n)
     (stopped at-end 1 0) 4 (stopped at-end 1 0) 5 ∷
     alike-but (λ p n. shows p [] [] [] (some (int 0) ∷ some (int 7) ∷ []) n)
@@ -95,6 +116,14 @@ pub cases-run :
     (λ p n. shows p (0 ∷ []) (event 2 68 0 (int least ∷ []) ∷ event 6 68 0 (int least ∷ []) ∷ []) []
     (some (int least) ∷ some (int minus-one) ∷ some (int least) ∷ some (int least) ∷ some (int minus-one) ∷ []) n)
     (stopped at-end 1 0) 6 (stopped at-end 1 0) 7 ∷
+    alike-but
+    (λ p n. shows p (1 ∷ 1 ∷ 0 ∷ [])
+    (event 4 39 0 (int 0 ∷ int 0 ∷ []) ∷ event 4 39 0 (int (W - 5) ∷ int (W - 3) ∷ []) ∷ event 8 66 0 (int 7 ∷ []) ∷ []) []
+    (some (int 2) ∷ some (int 7) ∷ some (int 9) ∷ some (int (W - 3)) ∷ some (bool false) ∷ []) n)
+    (stopped at-ret 2 0) 13 (stopped at-ret 2 0) 17 ∷
+    alike-but
+    (λ p n. shows p (0 ∷ []) (event 4 39 0 (int 0 ∷ int 0 ∷ []) ∷ []) [] (some (int 2) ∷ some (int 0) ∷ some (int 0) ∷ some (int 0) ∷ none ∷ []) n)
+    (stopped at-halt 1 1) 4 (stopped at-halt 1 2) 5 ∷
     []
 unfolding all-of-pairing
 cases-run = refl

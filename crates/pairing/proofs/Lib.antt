@@ -29,5 +29,6 @@ pub mod UnlikeSaves
 pub mod Computed
 pub mod NoProgress
 pub mod Division
+pub mod Joining
 pub mod Theorems
 pub mod Contract

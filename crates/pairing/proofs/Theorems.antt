@@ -6,7 +6,7 @@ use mathlib.Core.Path.{_≡_, refl, sym, ap, _∙_, subst}
 use mathlib.Core.Logic.{_≢_, _↔_, _⊎_}
 use mathlib.Core.Bool.{true}
 use mathlib.Core.List.{List, [], _∷_, _++_, map, map-append}
-use mathlib.Core.Option.{Option, some}
+use mathlib.Core.Option.{Option, none, some}
 use native.Mathlib.Nat.{add-zero}
 use lib.ListN.{length, getD, length-map}
 use lib.Signed.{quotZ}
@@ -26,17 +26,17 @@ use Rattle.record.specs.Reader.{got}
 use Rattle.record.specs.Read.{read}
 use Rattle.record.specs.Write.{bytes}
 use Rattle.record.specs.Answer.{checked}
-use Rattle.record.specs.Good.{RecordOk}
+use Rattle.record.specs.Good.{Each, RecordOk, PhiOk}
 use Rattle.record.specs.Short.{gives, set}
 use Rattle.record.proofs.Accepted.{read-ok}
 use Rattle.record.proofs.ReadBack.{reads-back}
 use Rattle.record.proofs.ReadFrom.{accept-from}
 use Rattle.record.proofs.Typed.{accept-typed}
 use Rattle.numbering.specs.declared.ValNum.{ValNum}
-use Rattle.numbering.specs.Number.{instr-lvn, block-lvn, count-saves, blocks-lvn, lvn}
-use Rattle.numbering.specs.State.{State, start, known}
+use Rattle.numbering.specs.Number.{rewrite-instr, instr-lvn, block-lvn, count-saves, blocks-lvn, lvn}
+use Rattle.numbering.specs.State.{State, start, gen-new-vals, known}
 use Rattle.numbering.specs.Simplify.{simplify}
-use Rattle.numbering.specs.Shared.{behind, Exchanged, SharesNumber}
+use Rattle.numbering.specs.Shared.{behind, Exchanged, SharesNumber, NewNumber}
 use Rattle.numbering.specs.Decimal.{Decimal}
 use Rattle.numbering.specs.Made.{digits, made-name, made-names, made, rewriting}
 use Rattle.numbering.specs.declared.Rewritten.{Rewritten}
@@ -59,7 +59,8 @@ use Rattle.numbering.proofs.Greater.{greater-is-less, greater-equal-is-less-equ
 use Rattle.numbering.proofs.NoGreater.{none-greater}
 use Rattle.numbering.proofs.Shared.{shared-number}
 use Rattle.numbering.proofs.Quotient.{quotient-simplified, stays-by-zero, quotient-is-constant}
-use Rattle.machine.specs.Machine.{Store, Context, Answer, at-unset, at-division, Mach, goes, ends, tick, assign, step, stopped, run}
+use Rattle.numbering.proofs.Phi.{phi-kept, phi-new}
+use Rattle.machine.specs.Machine.{Store, Context, plain-machine, Answer, at-unset, at-division, Mach, goes, ends, tick, assign, read-all, event-of, answered, step, stopped, run}
 use Rattle.machine.specs.Reached.{read-no-unset}
 use Rattle.pairing.specs.Demand.{shown, stop, Agree, TypedStore, Starts, RunAlike, SavesBounded, All}
 use Rattle.pairing.specs.Contract.{Accepted}
@@ -68,6 +69,7 @@ use Rattle.pairing.proofs.Accepted.{accepted-fit}
 use Rattle.pairing.proofs.Progress.{progress, read-then-quiet, quiet-then-read}
 use Rattle.pairing.proofs.Functions.{fit-blocks, saves-bounded, demand3}
 use Rattle.pairing.proofs.Division.{quotient-step, zero-step}
+use Rattle.pairing.proofs.Joining.{blocks-phis, phi-step, phi-unset}
 
 -- Demand 1: rewrite ends in exactly one of three ways, for every input and output: check's refusal with its reason and offset, the bytes
 -- needed, or the rewriting written with its length and all saves. The first two change no byte, the third none beyond; none the length.
@@ -353,3 +355,40 @@ pub division-as-constant :
     known s v ≡ some (int m) → known s w ≡ some (int n) → n ≢ 0 → t (nm x) ≡ tint →
     instr-lvn N t s (gives id x 4 (a ∷ b ∷ [])) ≡ instr-lvn N t s (set id x 0 (divW m n))
 division-as-constant = quotient-is-constant
+
+-- ---- phi (document 02, Point 5)
+-- "dest, argument count 0 to 8, arguments, then one block number per argument. Arguments have dest's type.": so is each phi of an accepted
+-- record; its block numbers are the record's, and it has no callee.
+pub accepted-phis :
+    (s : List ℕ) (r : Record Placed) → Accepted s r →
+    Each (λ left b. Each (λ left i. i .code ≡ 39 → PhiOk (length (plain r .blocks)) (type-in (function (plain r) .types)) i) (b .body))
+    (plain r .blocks)
+accepted-phis s r a =
+    let h = accept-typed limits s r (a .end) (a .accepted) in
+    blocks-phis (length (plain r .names)) (length (plain r .blocks)) (type-in (function (plain r) .types)) (plain r .blocks) (good s r a .blocks)
+    (h .typed)
+
+-- "It is rewritten as the Rust does, .. with arguments replaced": id, code, dest and block numbers stay as they are.
+pub phi-is-kept :
+    (N : ℕ) (t : NameIx → ℕ) (s : State) (i : Instr) → i .code ≡ 39 →
+    instr-lvn N t s i .instr ≡ rewrite-instr (gen-new-vals s (i .args)) (i .args) i
+phi-is-kept = phi-kept
+
+-- "a new number each time": the next one, which no name has had, with dest as its home, and with no value by which another could be found
+-- to be the same.
+pub phi-has-new-number :
+    (N : ℕ) (t : NameIx → ℕ) (s : State) (i : Instr) → i .code ≡ 39 →
+    NewNumber (gen-new-vals s (i .args) .next) (i .dest) (instr-lvn N t s i .state)
+phi-has-new-number = phi-new
+
+-- "In the machine it is an event over all its argument values, answered as codes 20 to 38 are."
+pub phi-asks-the-world :
+    (f : Function) (i : Instr) (m : Mach) → i .code ≡ 39 → (vs : List Val) → read-all (m .store) (i .args) ≡ some vs →
+    step (plain-machine f) i m ≡ answered (type-in (f .types) (i .dest)) i (tick m) (event-of i vs) (m .answers)
+phi-asks-the-world = phi-step
+
+-- "A phi operand that is not set is an unset name read": it stops the run before there is an event.
+pub phi-stops-unset :
+    (f : Function) (i : Instr) (m : Mach) → i .code ≡ 39 → read-all (m .store) (i .args) ≡ none →
+    step (plain-machine f) i m ≡ ends at-unset (tick m)
+phi-stops-unset = phi-unset

@@ -11,7 +11,7 @@ use Rattle.record.specs.Record.{nm}
 use Rattle.machine.specs.Machine.{Store, go-on}
 use Rattle.pairing.specs.Demand.{Starts, RunAlike}
 use Rattle.pairing.specs.Wrong.{seen₁, seen₂}
-use Rattle.pairing.specs.Rare.{copies-unread, copies-early, greatest-argument, rare-argument, false-argument, equal-not-greater, equal-not-less, not-swapped, least-argument, reads-made, greatest-answer, writes-early, behind-answers, takes-bool, second-block, behind-loop, ordinary}
+use Rattle.pairing.specs.Rare.{copies-unread, copies-early, greatest-argument, rare-argument, false-argument, equal-not-greater, equal-not-less, not-swapped, least-argument, phi-exchanged, phi-merged, reads-made, greatest-answer, writes-early, behind-answers, takes-bool, second-block, behind-loop, ordinary}
 use Rattle.pairing.proofs.Unlike.{agree, alike, Unlike, told, first-word, held, where-shown}
 use Rattle.pairing.specs.Opened.{all-of-pairing}
 
@@ -25,6 +25,8 @@ pub record Rare : Type 0 where
   pub greater-equal : Unlike equal-not-less
   pub swapped : Unlike not-swapped
   pub least : Unlike least-argument
+  pub exchanged : Unlike phi-exchanged
+  pub merged : Unlike phi-merged
   pub answer : Unlike greatest-answer
   pub halted : Unlike writes-early
   pub answered : Unlike behind-answers
@@ -45,6 +47,8 @@ rare-refused =
       greater-equal = λ h. told held (alike equal-not-less tt h .values (nm 2) (omega arith)) tt;
       swapped = λ h. told held (alike not-swapped tt h .values (nm 2) (omega arith)) tt;
       least = λ h. told held (alike least-argument tt h .values (nm 4) (omega arith)) tt;
+      exchanged = λ h. told first-word (alike phi-exchanged tt h .events) tt;
+      merged = λ h. told length (alike phi-merged tt h .events) tt;
       answer = λ h. told held (alike greatest-answer tt h .values (nm 3) (omega arith)) tt;
       halted = λ h. told held (alike writes-early tt h .values (nm 1) (omega arith)) tt;
       answered = λ h. told held (alike behind-answers tt h .values (nm 1) (omega arith)) tt;

@@ -58,8 +58,8 @@ abbrev dests-of : ℕ → ℕ
 dests-of c = count-dests (gives 1 0 c [] ∷ [])
 
 pub destinations-by-code :
-    map dests-of (0 ∷ 1 ∷ 9 ∷ 10 ∷ 13 ∷ 14 ∷ 20 ∷ 21 ∷ 34 ∷ 35 ∷ 38 ∷ 64 ∷ 65 ∷ 66 ∷ 67 ∷ 68 ∷ 69 ∷ 70 ∷ 71 ∷ []) ≡
-    1 ∷ 1 ∷ 1 ∷ 1 ∷ 1 ∷ 1 ∷ 1 ∷ 1 ∷ 1 ∷ 1 ∷ 1 ∷ 0 ∷ 0 ∷ 0 ∷ 0 ∷ 0 ∷ 0 ∷ 0 ∷ 0 ∷ []
+    map dests-of (0 ∷ 1 ∷ 9 ∷ 10 ∷ 13 ∷ 14 ∷ 20 ∷ 21 ∷ 34 ∷ 35 ∷ 38 ∷ 39 ∷ 64 ∷ 65 ∷ 66 ∷ 67 ∷ 68 ∷ 69 ∷ 70 ∷ 71 ∷ []) ≡
+    1 ∷ 1 ∷ 1 ∷ 1 ∷ 1 ∷ 1 ∷ 1 ∷ 1 ∷ 1 ∷ 1 ∷ 1 ∷ 1 ∷ 0 ∷ 0 ∷ 0 ∷ 0 ∷ 0 ∷ 0 ∷ 0 ∷ 0 ∷ []
 unfolding shape-of count-dests
 destinations-by-code = refl
 

@@ -7,7 +7,7 @@ use mathlib.Core.Option.{Option, none, some}
 use Rattle.arith.specs.Word.{least, minus-one}
 use Rattle.arith.specs.Value.{tint, tbool, Val, int, bool}
 use Rattle.record.specs.Record.{Instr, Block, Function}
-use Rattle.record.specs.Short.{gives, set, chooses}
+use Rattle.record.specs.Short.{gives, joins, set, chooses}
 use Rattle.machine.specs.Machine.{Answer, value, go-on, halt}
 use Rattle.pairing.specs.Wrong.{const, id, div, print, nop, saving, body, fn, just, Case, from, next-block-other}
 
@@ -77,6 +77,20 @@ least-argument =
     (just 1 (tint ∷ tint ∷ tint ∷ tint ∷ tbool ∷ []) (const 1 1 minus-one ∷ const 2 2 0 ∷ div 3 3 0 1 ∷ gives 4 4 5 (3 ∷ 0 ∷ []) ∷ []))
     (just 1 (tint ∷ tint ∷ tint ∷ tint ∷ tbool ∷ []) (const 1 1 minus-one ∷ const 2 2 0 ∷ div 3 3 0 1 ∷ gives 4 4 5 (0 ∷ 2 ∷ []) ∷ []))
 
+-- phi a b taken to be phi b a, its block numbers left in place: unlike where a and b hold other values
+abbrev pub phi-exchanged : Case
+phi-exchanged =
+    from (some (int 3) ∷ some (int 5) ∷ none ∷ []) (value (int 7) ∷ []) 1
+    (just 2 (tint ∷ tint ∷ tint ∷ []) (joins 1 2 ((0, 0) ∷ (1, 0) ∷ []) ∷ []))
+    (just 2 (tint ∷ tint ∷ tint ∷ []) (joins 1 2 ((1, 0) ∷ (0, 0) ∷ []) ∷ []))
+
+-- the second of two equal phis taken to be an id of the first: an event less, and its answer is not taken
+abbrev pub phi-merged : Case
+phi-merged =
+    from (some (int 3) ∷ none ∷ none ∷ []) (value (int 7) ∷ value (int 8) ∷ []) 1
+    (just 1 (tint ∷ tint ∷ tint ∷ []) (joins 1 1 ((0, 0) ∷ []) ∷ joins 2 2 ((0, 0) ∷ []) ∷ []))
+    (just 1 (tint ∷ tint ∷ tint ∷ []) (joins 1 1 ((0, 0) ∷ []) ∷ id 2 2 1 ∷ []))
+
 -- a function that reads a name beyond its own, which is made: it is not like itself
 abbrev pub reads-made : Function
 reads-made = just 0 [] (print 1 0 ∷ [])
@@ -145,6 +159,7 @@ ordinary =
     instead equal-not-less (some (int 5) ∷ some (int 3) ∷ none ∷ []) [] 1 ∷
     instead equal-not-less (some (int 3) ∷ some (int 5) ∷ none ∷ []) [] 1 ∷
     instead not-swapped (some (int 5) ∷ some (int 5) ∷ none ∷ []) [] 1 ∷
+    instead phi-exchanged (some (int 5) ∷ some (int 5) ∷ none ∷ []) (value (int 7) ∷ []) 1 ∷
     instead least-argument (some (int 0) ∷ none ∷ none ∷ none ∷ none ∷ []) [] 1 ∷
     instead least-argument (some (int (least + 1)) ∷ none ∷ none ∷ none ∷ none ∷ []) [] 1 ∷
     instead greatest-answer (none ∷ none ∷ none ∷ none ∷ []) (value (int 0) ∷ []) 1 ∷

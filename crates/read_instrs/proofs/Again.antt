@@ -9,15 +9,17 @@ use Rattle.record.specs.declared.NameIx.{NameIx}
 use Rattle.record.specs.declared.Shape.{Shape}
 use Rattle.record.specs.declared.Instruction.{Instruction}
 use Rattle.record.specs.Record.{nm, Lit, no-lit, Instr}
-use Rattle.record.specs.Shape.{shape-of}
+use Rattle.record.specs.Shape.{targets, shape-of}
 use Rattle.record.specs.Reader.{num-at}
 use Rattle.record.specs.Tests.{literal-test}
-use Rattle.record.specs.Good.{There, LitOk, ArgsOk, InstrOk}
+use Rattle.record.specs.Good.{There, LitOk, InstrOk}
 use Rattle.record.specs.Answer.{literal-of}
 use Rattle.record.specs.View.{code-of, instr-of}
-use Rattle.record.specs.Decode.{items, behind, two-on, index-from, number-from, lit-at, count-at, callee-at, targets-at, operands-end, operands-from, instr-from, instr-end}
-use Rattle.record.proofs.Tests.{le-at-most, count-most}
-use Rattle.record.proofs.Decode.{length-items, behind-two}
+use Rattle.record.specs.Decode.{items, behind, two-on, index-from, number-from, count-from, lit-at, count-at, callee-at, targets-at, operands-end, operands-from, instr-from, instr-end}
+use Rattle.record.proofs.Tests.{le-at-most}
+use Rattle.record.specs.Sizes.{longest-operands}
+use Rattle.record.proofs.Decode.{length-items, behind-two, behind-args}
+use Rattle.record.proofs.Longest.{args-few}
 use Rattle.codes.specs.Op.{op-of}
 use Rattle.codes.proofs.Op.{op-code}
 use Rattle.read_instrs.specs.declared.Read.{Read}
@@ -52,12 +54,13 @@ module _ (s : List ℕ) (p : ℕ) where
 pub record Counted (sh : Shape) (s : List ℕ) (at lit count n : ℕ) : Type 0 where
   pub lit-is : lit ≡ cond (sh .dest) (at + 2) at
   pub count-is : count ≡ cond (sh .literal) (lit + 9) lit
-  pub n-is : n ≡ cond (not (sh .literal)) (num-at s count 1) 0
+  pub n-is : n ≡ count-from sh s count
 
-pub record Places (sh : Shape) (s : List ℕ) (at lit count n callee blocks : ℕ) : Type 0 where
+pub record Places (sh : Shape) (s : List ℕ) (at lit count n callee blocks m : ℕ) : Type 0 where
   pub counted : Counted sh s at lit count n
   pub callee-is : callee ≡ cond (not (sh .literal)) (count + (1 + 2 * n)) count
   pub blocks-is : blocks ≡ cond (sh .callee) (callee + 2) callee
+  pub m-is : m ≡ targets sh n
 
 module _ {sh : Shape} {s : List ℕ} {at lit count n : ℕ} (counted : Counted sh s at lit count n) where
   lit-there : lit ≡ lit-at sh s at
@@ -80,24 +83,24 @@ module _ {sh : Shape} {s : List ℕ} {at lit count n : ℕ} (counted : Counted s
   unfolding operands-from
   literal-ok x code h = rw lit-there (h .lit)
 
-module _ {sh : Shape} {s : List ℕ} {at lit count n callee blocks : ℕ} (places : Places sh s at lit count n callee blocks) where
+module _ {sh : Shape} {s : List ℕ} {at lit count n callee blocks m : ℕ} (places : Places sh s at lit count n callee blocks m) where
   callee-there : callee ≡ callee-at sh s at
   unfolding callee-at
   callee-there =
-      places .callee-is ∙
-      cond-then (not (sh .literal)) (count + (1 + 2 * n)) (behind two-on (count + 1) (num-at s count 1)) count (λ e.
-      let k : n ≡ num-at s count 1 = rw e at (places .counted .n-is) in
-      let d : count + (1 + 2 * n) ≡ count + 1 + 2 * num-at s count 1 = omega arith in
-      d ∙ sym (behind-two (count + 1) (num-at s count 1))) ∙
+      places .callee-is ∙ behind-args (not (sh .literal)) count (num-at s count 1) n (places .counted .n-is) ∙
       ap (λ (p : ℕ). cond (not (sh .literal)) (behind two-on (p + 1) (num-at s p 1)) p) (count-there (places .counted))
 
   blocks-there : blocks ≡ targets-at sh s at
   unfolding targets-at
   blocks-there = places .blocks-is ∙ ap (λ (p : ℕ). cond (sh .callee) (p + 2) p) callee-there
 
-  pub end-there : blocks + 2 * sh .blocks ≡ operands-end sh s at
+  many-there : m ≡ targets sh (count-from sh s (count-at sh s at))
+  many-there =
+      places .m-is ∙ ap (targets sh) (places .counted .n-is ∙ ap (count-from sh s) (count-there (places .counted)))
+
+  pub end-there : blocks + 2 * m ≡ operands-end sh s at
   unfolding operands-end
-  end-there = sym (behind-two blocks (sh .blocks)) ∙ ap (λ (p : ℕ). behind two-on p (sh .blocks)) blocks-there
+  end-there = sym (behind-two blocks m) ∙ (λ j. behind two-on (blocks-there j) (many-there j))
 
   module _ (x code : ℕ) where
     pub operands-again :
@@ -110,7 +113,7 @@ module _ {sh : Shape} {s : List ℕ} {at lit count n callee blocks : ℕ} (place
         i .count ≡ n →
         take n (i .args) ≡ items (number-from s) two-on (count + 1) n →
         i .callee ≡ cond (sh .callee) (num-at s callee 2) 0 →
-        take (sh .blocks) (i .blocks) ≡ items (number-from s) two-on blocks (sh .blocks) →
+        take m (i .blocks) ≡ items (number-from s) two-on blocks m →
         instr-of i ≡ operands-from sh s at x code
     unfolding instr-of operands-from index-from
     operands-again i e f o d l c a k b =
@@ -124,9 +127,11 @@ module _ {sh : Shape} {s : List ℕ} {at lit count n callee blocks : ℕ} (place
         ap (λ (p : ℕ). cond (not (sh .literal)) (items (index-from s) two-on (p + 1) (num-at s p 1)) []) (count-there (places .counted)) in
         let callee-there-is : i .callee ≡ cond (sh .callee) (num-at s (callee-at sh s at) 2) 0 =
         k ∙ ap (λ (p : ℕ). cond (sh .callee) (num-at s p 2) 0) callee-there in
-        let blocks-are : take (shape-of (code-of (i .op)) .blocks) (i .blocks) ≡ items (number-from s) two-on (targets-at sh s at) (sh .blocks) =
-        ap (λ (t : Shape). take (t .blocks) (i .blocks)) (ap shape-of code-is ∙ sym e) ∙ b ∙
-        ap (λ (p : ℕ). items (number-from s) two-on p (sh .blocks)) blocks-there in
+        let m-as-written : targets (shape-of (code-of (i .op))) (i .count) ≡ m =
+        (λ j. targets ((ap shape-of code-is ∙ sym e) j) (c j)) ∙ sym (places .m-is) in
+        let blocks-are : take (targets (shape-of (code-of (i .op))) (i .count)) (i .blocks) ≡
+        items (number-from s) two-on (targets-at sh s at) (targets sh (count-from sh s (count-at sh s at))) =
+        ap (λ (k : ℕ). take k (i .blocks)) m-as-written ∙ b ∙ (λ j. items (number-from s) two-on (blocks-there j) (many-there j)) in
         λ j. record {
           id = f j;
           code = code-is j;
@@ -161,7 +166,7 @@ module _
           instr = o .instr ∙ sym instr-parts;
           op = o .op ∙ ap op-of code-is;
           next = o .next ∙ end-parts;
-          near = let n : r .next ≤ at + w + 1 + 34 = o .near in omega arith;
+          near = let n : r .next ≤ at + w + 1 + longest-operands = o .near in omega arith;
           id = subst (λ (y : ℕ). y < 256 ^ w) (sym (o .id)) k;
           count = o .count;
         }
@@ -175,13 +180,9 @@ lit-by : (b : Bool) (l : Lit) → There b LitOk no-lit l → LitOk l
 lit-by true l h = h
 lit-by false l h = rw h no-lit-ok
 
-args-most : (b : Bool) (N : ℕ) (c : ℕ) (xs : List NameIx) → There b (ArgsOk N (shape-of c)) [] xs → length xs ≤ 8
-args-most true N c xs h = let m : length xs ≤ shape-of c .most = count-most (shape-of c) (length xs) (h .count) in omega (arith, shape-most c)
-args-most false N c xs h = rw h (omega arith)
-
 pub instr-readable : {N B left : ℕ} (i : Instr) → InstrOk N B left i → Readable i
 instr-readable {N} i h =
     record {
       lit = lit-by (shape-of (i .code) .literal) (i .lit) (h .rest .lit);
-      args = args-most (not (shape-of (i .code) .literal)) N (i .code) (i .args) (h .rest .args);
+      args = args-few N (shape-of (i .code)) (i .args) (not (shape-of (i .code) .literal)) (shape-most (i .code)) (h .rest .args);
     }

@@ -46,16 +46,6 @@ fn two_if(there: bool, s: &[u8], at: usize) -> u16
     0
 }
 
-// A number of one byte, where it is there; else 0.
-fn byte_if(there: bool, s: &[u8], at: usize) -> u8
-    ensures { λ r. ⌜ r ≡ cond there (num-at (now (s .entry)) at 1) 0 ⌝ }
-{
-    if there {
-        return read_fields::byte_or(s, at) as u8;
-    }
-    0
-}
-
 // A literal, where it is there; else the int 0.
 fn read_literal(there: bool, s: &[u8], at: usize) -> Literal
     requires { ⌜ (at + 8 < places) × LitOk (cond there (lit-from (now s) at) no-lit) ⌝ }
@@ -67,29 +57,21 @@ fn read_literal(there: bool, s: &[u8], at: usize) -> Literal
     Literal::Int(0)
 }
 
-// n arguments.
-fn read_args(s: &[u8], at: usize, n: u8) -> [u16; 8]
+// A row of n numbers of two bytes, arguments or block numbers, of which there are at most eight.
+fn read_row(s: &[u8], at: usize, n: u64) -> [u16; 8]
     requires { ⌜ (at + 2 * n < places) × (n ≤ 8) ⌝ }
     ensures { λ r. ⌜ take n r ≡ items (number-from (now (s .entry))) two-on at n ⌝ }
 {
     let m = n as usize;
-    let mut args = [0u16; 8];
+    let mut row = [0u16; 8];
     let mut p = at;
     let mut i: usize = 0;
     while i < m {
-        args[i] = read_fields::be16(s, p) as u16;
+        row[i] = read_fields::be16(s, p) as u16;
         p += 2;
         i += 1;
     }
-    args
-}
-
-// Two block numbers, of which the first n count.
-fn read_targets(s: &[u8], at: usize, n: u8) -> [u16; 2]
-    requires { ⌜ (at + 3 < places) × (n ≤ 2) ⌝ }
-    ensures { λ r. ⌜ take n r ≡ items (number-from (now (s .entry))) two-on at n ⌝ }
-{
-    [two_if(1 <= n, s, at), two_if(2 <= n, s, at + 2)]
+    row
 }
 
 // What stands behind the code.
@@ -99,21 +81,22 @@ fn read_operands(s: &[u8], at: usize, sh: Shape, id: u64, code: u8) -> Read
 {
     let lit = read_fields::past_if(sh.dest, at, 2);
     let count = read_fields::past_if(sh.literal, lit, 9);
-    let n = byte_if(!sh.literal, s, count);
+    let n = read_shapes::count_from(sh, s, count);
     let callee = read_fields::past_if(!sh.literal, count, 1 + 2 * (n as usize));
     let blocks = read_fields::past_if(sh.callee, callee, 2);
+    let m = read_shapes::targets(sh, n);
     Read {
         instr: Instruction {
             id: id,
             op: codes::op_of(code),
             dest: NameIx(two_if(sh.dest, s, at)),
             literal: read_literal(sh.literal, s, lit),
-            count: n,
-            args: read_args(s, count + 1, n),
+            count: n as u8,
+            args: read_row(s, count + 1, n),
             callee: two_if(sh.callee, s, callee),
-            blocks: read_targets(s, blocks, sh.blocks),
+            blocks: read_row(s, blocks, m),
         },
-        next: blocks + 2 * (sh.blocks as usize),
+        next: blocks + 2 * (m as usize),
     }
 }
 

@@ -6,35 +6,37 @@ use mathlib.Core.Bool.{Bool, true, false, cond, not}
 use native.Mathlib.Omega.{arith}
 use lib.ListN.{getD}
 use Rattle.record.specs.declared.Shape.{Shape}
-use Rattle.record.specs.Shape.{shape-of}
+use Rattle.record.specs.Shape.{targets, shape-of}
 use Rattle.record.specs.Record.{id-bytes}
 use Rattle.record.specs.Reader.{num-at}
-use Rattle.record.specs.Decode.{behind, two-on, lit-at, count-at, callee-at, targets-at, operands-end, instr-end, block-end, name-end, names-count, names-end}
-use Rattle.record.proofs.Decode.{behind-two}
+use Rattle.record.specs.Decode.{behind, two-on, count-from, lit-at, count-at, callee-at, targets-at, operands-end, instr-end, block-end, name-end, names-count, names-end}
+use Rattle.record.proofs.Decode.{behind-two, behind-args}
 use Rattle.record.proofs.Rows.{behind-on}
 use Rattle.read_layout.specs.declared.Layout.{Layout}
 use Rattle.read_layout.specs.Layout.{layout-of}
 
 -- ---- ends
-pub past-args : (at n m : ℕ) → m ≡ n → at + 1 + 2 * m ≡ behind two-on (at + 1) n
-past-args at n m e = ap (λ (k : ℕ). at + 1 + 2 * k) e ∙ sym (behind-two (at + 1) n)
-
 -- the parts of the operands, each from where the one before it ends
 pub operands-past :
-    (sh : Shape) (s : List ℕ) (at l c a t r : ℕ) →
+    (sh : Shape) (s : List ℕ) (at l c n a t m r : ℕ) →
     l ≡ cond (sh .dest) (at + 2) at →
     c ≡ cond (sh .literal) (l + 9) l →
-    a ≡ cond (not (sh .literal)) (behind two-on (c + 1) (num-at s c 1)) c →
+    n ≡ count-from sh s c →
+    a ≡ cond (not (sh .literal)) (c + (1 + 2 * n)) c →
     t ≡ cond (sh .callee) (a + 2) a →
-    r ≡ t + 2 * sh .blocks →
+    m ≡ targets sh n →
+    r ≡ t + 2 * m →
     r ≡ operands-end sh s at
 unfolding operands-end lit-at count-at callee-at targets-at
-operands-past sh s at l c a t r el ec ea et er =
+operands-past sh s at l c n a t m r el ec en ea et em er =
     let c′ : c ≡ count-at sh s at =
     ec ∙ ap (λ (k : ℕ). cond (sh .literal) k l) (omega arith) ∙ ap (λ (k : ℕ). cond (sh .literal) (k + 1 + 8) k) el in
-    let a′ : a ≡ callee-at sh s at = ea ∙ ap (λ (k : ℕ). cond (not (sh .literal)) (behind two-on (k + 1) (num-at s k 1)) k) c′ in
+    let a′ : a ≡ callee-at sh s at =
+    ea ∙ behind-args (not (sh .literal)) c (num-at s c 1) n en ∙
+    ap (λ (k : ℕ). cond (not (sh .literal)) (behind two-on (k + 1) (num-at s k 1)) k) c′ in
     let t′ : t ≡ targets-at sh s at = et ∙ ap (λ (k : ℕ). cond (sh .callee) (k + 2) k) a′ in
-    er ∙ ap (λ (k : ℕ). k + 2 * sh .blocks) t′ ∙ sym (behind-two (targets-at sh s at) (sh .blocks))
+    let m′ : m ≡ targets sh (count-from sh s (count-at sh s at)) = em ∙ ap (targets sh) (en ∙ ap (count-from sh s) c′) in
+    er ∙ (λ i. t′ i + 2 * m′ i) ∙ sym (behind-two (targets-at sh s at) (targets sh (count-from sh s (count-at sh s at))))
 
 -- c: the code of the instruction, sh: its shape
 pub instr-past :
@@ -76,7 +78,7 @@ operands-grow sh s at =
     let on = behind-on two-on two-grows (c + 1) (num-at s c 1) in
     let ha : c ≤ a = past-on (not (sh .literal)) c (behind two-on (c + 1) (num-at s c 1)) (omega (arith, on)) in
     let ht : a ≤ t = past-on (sh .callee) a (a + 2) (omega arith) in
-    omega (arith, hl, hc, ha, ht, behind-on two-on two-grows t (sh .blocks))
+    omega (arith, hl, hc, ha, ht, behind-on two-on two-grows t (targets sh (count-from sh s c)))
 
 instr-grows : (w : ℕ) (s : List ℕ) (at : ℕ) → at ≤ instr-end w s at
 unfolding instr-end

@@ -39,18 +39,6 @@ pub fn id_width(s: &[u8]) -> usize
 }
 
 // ---- the end of an instruction
-// The place behind a count and its arguments, which are there or not.
-fn past_args_if(there: bool, s: &[u8], at: usize) -> usize
-    requires { ⌜ at + row-reach < places ⌝ }
-    ensures { λ r. ⌜ (r ≡ cond there (behind two-on (at + 1) (num-at (now (s .entry)) at 1)) at) × (r ≤ at + row-reach) ⌝ }
-{
-    if there {
-        at + 1 + 2 * (read_fields::byte_or(s, at) as usize)
-    } else {
-        at
-    }
-}
-
 // The place behind operands of this shape.
 fn operands_end(sh: Shape, s: &[u8], at: usize) -> usize
     requires { ⌜ at + operands-reach < places ⌝ }
@@ -58,9 +46,10 @@ fn operands_end(sh: Shape, s: &[u8], at: usize) -> usize
 {
     let literal = read_fields::past_if(sh.dest, at, 2);
     let count = read_fields::past_if(sh.literal, literal, 9);
-    let callee = past_args_if(!sh.literal, s, count);
-    let targets = read_fields::past_if(sh.callee, callee, 2);
-    targets + 2 * (sh.blocks as usize)
+    let n = read_shapes::count_from(sh, s, count);
+    let callee = read_fields::past_if(!sh.literal, count, 1 + 2 * (n as usize));
+    let blocks = read_fields::past_if(sh.callee, callee, 2);
+    blocks + 2 * (read_shapes::targets(sh, n) as usize)
 }
 
 // The place behind the instruction at a place; w: the bytes of an id.

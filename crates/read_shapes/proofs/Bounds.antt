@@ -1,11 +1,13 @@
--- Bounds that hold in each row of the table of shapes: at most eight arguments and two block numbers.
+-- Bounds that hold in each row of the table of shapes: at most eight arguments, and two block numbers where there is not one for each of them.
 use Prim.Native.Nat.{ℕ, _≤_}
 use mathlib.Core.Path.{_≡_, refl}
 use mathlib.Core.List.{List, [], _∷_}
 use mathlib.Core.Bool.{Bool, true, false, cond, _&&_}
+use native.Mathlib.Omega.{arith}
 use lib.Dec.{leb}
 use borrow.Author.Tests.{leb-true}
-use Rattle.record.specs.Shape.{unknown, row-of, shapes, shape-of}
+use Rattle.record.specs.Shape.{unknown, row-of, shapes, targets, shape-of}
+use Rattle.record.proofs.Longest.{targets-most}
 use Rattle.record.proofs.Tests.{and-left, and-right}
 
 module _ {A : Type 0} (p : A → Bool) (d : A) (e : p d ≡ true) (c : ℕ) where
@@ -23,10 +25,14 @@ module _ {A : Type 0} (p : A → Bool) (d : A) (e : p d ≡ true) (c : ℕ) wher
       row-either (leb c (r .0)) (r .1) (row-of d rs c)
       (and-left (p (r .1)) (in-all rs) h) (row-all rs (and-right (p (r .1)) (in-all rs) h))
 
-pub shape-blocks : (c : ℕ) → shape-of c .blocks ≤ 2
+shape-blocks : (c : ℕ) → shape-of c .blocks ≤ 2
 unfolding shape-of
 shape-blocks c = leb-true _ 2 (row-all (λ sh. leb (sh .blocks) 2) unknown refl c shapes refl)
 
 pub shape-most : (c : ℕ) → shape-of c .most ≤ 8
 unfolding shape-of
 shape-most c = leb-true _ 8 (row-all (λ sh. leb (sh .most) 8) unknown refl c shapes refl)
+
+-- so at most eight block numbers behind eight arguments or fewer
+pub shape-targets : (c n : ℕ) → n ≤ 8 → targets (shape-of c) n ≤ 8
+shape-targets c n h = targets-most 8 n (shape-of c) (omega (arith, shape-blocks c)) h

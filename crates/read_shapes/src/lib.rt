@@ -5,10 +5,11 @@ use record::Shape;
 use record::Test;
 ghost use mathlib.Core.Path.{_≡_};
 ghost use mathlib.Core.Bool.{true, false};
-ghost use Prim.Native.Nat.{_≤_};
+ghost use Prim.Native.Nat.{_<_, _≤_};
 ghost use Rattle.arith.specs.Value.{scalar};
 ghost use Rattle.record.specs.Reader.{field};
-ghost use Rattle.record.specs.Shape.{value, effect, call, print, terminator, shape-of};
+ghost use Rattle.record.specs.Shape.{value, effect, call, print, phi, terminator, targets, shape-of};
+ghost use Rattle.record.specs.Decode.{count-from};
 ghost use Rattle.record.specs.Tests.{code-test, count-test, literal-test};
 ghost use Rattle.read_fields.specs.Answer.{res};
 
@@ -16,7 +17,7 @@ ghost use Rattle.read_fields.specs.Answer.{res};
 // That of a code with few to most arguments which ends no block; most have no callee.
 fn inner(dest: bool, few: u8, most: u8, callee: bool) -> Shape
     ensures { λ r.
-        ⌜ r ≡ record { known = true; last = false; literal = false; dest = dest; few = few; most = most; callee = callee; blocks = 0 } ⌝ }
+        ⌜ r ≡ record { known = true; last = false; literal = false; dest = dest; few = few; most = most; callee = callee; blocks = 0; each = false } ⌝ }
 {
     Shape {
         known: true,
@@ -27,6 +28,7 @@ fn inner(dest: bool, few: u8, most: u8, callee: bool) -> Shape
         most: most,
         callee: callee,
         blocks: 0,
+        each: false,
     }
 }
 
@@ -58,6 +60,23 @@ fn print() -> Shape
     inner(false, 0, 8, false)
 }
 
+// phi, with up to eight arguments and a block number for each.
+fn phi() -> Shape
+    ensures { λ r. ⌜ r ≡ phi ⌝ }
+{
+    Shape {
+        known: true,
+        last: false,
+        literal: false,
+        dest: true,
+        few: 0,
+        most: 8,
+        callee: false,
+        blocks: 0,
+        each: true,
+    }
+}
+
 // The fewest and the most arguments of jmp, br or ret, and its block numbers.
 fn terminator(few: u8, most: u8, blocks: u8) -> Shape
     ensures { λ r. ⌜ r ≡ terminator few most blocks ⌝ }
@@ -71,6 +90,7 @@ fn terminator(few: u8, most: u8, blocks: u8) -> Shape
         most: most,
         callee: false,
         blocks: blocks,
+        each: false,
     }
 }
 
@@ -89,15 +109,16 @@ fn pure_shape(code: u64) -> Shape
     }
 }
 
-// call, then fadd to cge with two operands, then char2int to load with one.
+// call, then fadd to cge with two operands, then char2int to load with one, then phi.
 fn new_shape(code: u64) -> Shape
-    requires { ⌜ (20 ≤ code) × (code ≤ 38) ⌝ }
+    requires { ⌜ (20 ≤ code) × (code ≤ 39) ⌝ }
     ensures { λ r. ⌜ r ≡ shape-of code ⌝ }
 {
     match code {
         0..=20 => call(true),
         21..=34 => value(2),
-        _ => value(1),
+        35..=38 => value(1),
+        _ => phi(),
     }
 }
 
@@ -142,9 +163,10 @@ pub fn shape_of(code: u64) -> Shape
             most: 0,
             callee: false,
             blocks: 0,
+            each: false,
         },
         1..=14 => pure_shape(code),
-        20..=38 => new_shape(code),
+        20..=39 => new_shape(code),
         64..=71 => effect_shape(code),
         _ => Shape {
             known: false,
@@ -155,8 +177,30 @@ pub fn shape_of(code: u64) -> Shape
             most: 0,
             callee: false,
             blocks: 0,
+            each: false,
         },
     }
+}
+
+// ---- how many arguments and block numbers follow
+// The arguments, where their count would stand at a place.
+pub fn count_from(sh: Shape, s: &[u8], at: usize) -> u64
+    ensures { λ r. ⌜ (r ≡ count-from sh (now (s .entry)) at) × (r < 256) ⌝ }
+{
+    if sh.literal {
+        return 0;
+    }
+    read_fields::byte_or(s, at)
+}
+
+// The block numbers behind n arguments.
+pub fn targets(sh: Shape, n: u64) -> u64
+    ensures { λ r. ⌜ (r ≡ targets sh n) × (n < 256 → r < 256) ⌝ }
+{
+    if sh.each {
+        return n;
+    }
+    sh.blocks as u64
 }
 
 // ---- tests

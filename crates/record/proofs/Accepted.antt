@@ -8,7 +8,7 @@ use lib.Dec.{eqb}
 use Rattle.record.specs.declared.Shape.{Shape}
 use Rattle.record.specs.declared.Limits.{Limits}
 use Rattle.record.specs.Record.{nm, no-lit, Placed, Record, plain-block, plain, most-args, most-blocks, id-bytes}
-use Rattle.record.specs.Shape.{shape-of}
+use Rattle.record.specs.Shape.{targets, shape-of}
 use Rattle.record.specs.Tests.{any, at-most, below, version-test, names-test, type-test, text-length-test, text-test, saves-test, code-test, count-test, literal-test}
 use Rattle.record.specs.Reader.{got}
 use Rattle.record.specs.Read.{name-index, literal, arguments, operands, instr, block, name, names, length-field, end, contents, read}
@@ -42,7 +42,7 @@ module _ {s : List ℕ} where
       bind-gives _ _ (there-gives (sh .literal) no-lit _ literal-gives) (λ lit b.
       bind-gives _ _ (there-gives (not (sh .literal)) [] _ (arguments-give N sh)) (λ args c.
       bind-gives _ _ (there-gives (sh .callee) 0 _ (field-gives 2 any)) (λ callee d.
-      bind-gives _ _ (times-gives _ _ (λ left. field-gives 2 (below B)) (sh .blocks)) (λ blocks e.
+      bind-gives _ _ (times-gives _ _ (λ left. field-gives 2 (below B)) (targets sh (length args))) (λ blocks e.
       give-gives (λ i. (i .code ≡ code) × OperandsOk N B sh i)
       (refl, record { dest = a; lit = b; args = c; callee = d; targets = sym (e .0); blocks = e .1 }))))))
 

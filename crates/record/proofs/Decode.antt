@@ -9,16 +9,17 @@ use native.Mathlib.Nat.{add-zero}
 use lib.ListN.{length, getD, take, drop}
 use lib.Dec.{ltb, eqb}
 use Rattle.arith.proofs.Clash.{clash}
+use Rattle.record.specs.declared.NameIx.{NameIx}
 use Rattle.record.specs.declared.Shape.{Shape}
 use Rattle.record.specs.declared.Limits.{Limits}
 use Rattle.record.specs.declared.Refusal.the-variants.{Length}
 use Rattle.record.specs.declared.Test.{Test}
 use Rattle.record.specs.Record.{nm, no-lit, most-args, most-blocks, id-bytes}
-use Rattle.record.specs.Shape.{shape-of}
+use Rattle.record.specs.Shape.{targets, shape-of}
 use Rattle.record.specs.Reader.{Res, got, fault, Reader, then, refuse, give, _>>=_, here, num-at, field, text, if-there, times}
 use Rattle.record.specs.Tests.{any, at-most, below, length-test, version-test, names-test, type-test, text-length-test, text-test, saves-test, code-test, count-test, literal-test}
 use Rattle.record.specs.Read.{name-index, literal, arguments, operands, instr, block, name, names, length-field, end, contents, read}
-use Rattle.record.specs.Decode.{items, behind, two-on, index-from, number-from, operands-end, operands-from, instr-from, placed-from, instr-end, body-from, block-from, block-end, name-from, name-end, names-count, names-end, blocks-end, record-from}
+use Rattle.record.specs.Decode.{items, behind, two-on, index-from, number-from, count-from, count-at, operands-end, operands-from, instr-from, placed-from, instr-end, body-from, block-from, block-end, name-from, name-end, names-count, names-end, blocks-end, record-from}
 use Rattle.record.proofs.Fields.{field-tells, text-tells}
 
 -- ---- items in a row, by their number
@@ -40,10 +41,21 @@ unfolding items
 length-items one next zero at = refl
 length-items one next (suc n) at = ap suc (length-items one next n (next at))
 
+-- of items that are there or not
+pub length-there :
+    {A : Type 0} (one : ℕ → A) (next : ℕ → ℕ) (b : Bool) (n at : ℕ) → length (cond b (items one next at n) []) ≡ cond b n 0
+length-there one next true n at = length-items one next n at
+length-there one next false n at = refl
+
 pub behind-two : (p k : ℕ) → behind two-on p k ≡ p + 2 * k
 unfolding behind
 behind-two p zero = sym (add-zero p)
 behind-two p (suc k) = behind-two (p + 2) k ∙ omega arith
+
+-- the place behind n arguments and their count, which are there or not
+pub behind-args : (b : Bool) (p k n : ℕ) → n ≡ cond b k 0 → cond b (p + (1 + 2 * n)) p ≡ cond b (behind two-on (p + 1) k) p
+behind-args true p k n e = let d : p + (1 + 2 * n) ≡ p + 1 + 2 * k = omega arith in d ∙ sym (behind-two (p + 1) k)
+behind-args false p k n e = refl
 
 -- if the reader passes, it gives x and ends at p
 pub record Decodes {A : Type 0} (r : Reader A) (s : List ℕ) (at : ℕ) (x : A) (p : ℕ) : Type 0 where
@@ -119,16 +131,29 @@ arguments-decode N sh s at =
     bind-decodes _ (field-decodes 1 (count-test sh) s at)
     (bind-decodes _ (times-decode _ s (index-from s) two-on (λ left at. index-decodes N s at) (num-at s at 1) (at + 1)) give-decodes)
 
+-- as many arguments as their count says, where they are there
+pub args-counted :
+    (N : ℕ) (sh : Shape) (s : List ℕ) (at : ℕ) (xs : List NameIx) (p : ℕ) →
+    if-there (not (sh .literal)) [] (arguments N sh) s at ≡ got xs p →
+    length xs ≡ count-from sh s at
+args-counted N sh s at xs p e =
+    let b = not (sh .literal) in
+    ap length (there-decodes b [] (arguments-decode N sh s at) .told xs p e .0) ∙ length-there (index-from s) two-on b (num-at s at 1) (at + 1)
+
 operands-decode :
     (N B : ℕ) (sh : Shape) (id code : ℕ) (s : List ℕ) (at : ℕ) →
     Decodes (operands N B sh id code) s at (operands-from sh s at id code) (operands-end sh s at)
 unfolding operands operands-from operands-end number-from
 operands-decode N B sh id code s at =
+    let c = count-at sh s at in
     bind-decodes _ (there-decodes (sh .dest) (nm 0) (index-decodes N s _))
     (bind-decodes _ (there-decodes (sh .literal) no-lit (literal-decodes s _))
     (bind-decodes _ (there-decodes (not (sh .literal)) [] (arguments-decode N sh s _))
     (bind-decodes _ (there-decodes (sh .callee) 0 (field-decodes 2 any s _))
-    (bind-decodes _ (times-decode _ s (number-from s) two-on (λ left at. field-decodes 2 (below B) s at) (sh .blocks) _) give-decodes))))
+    (rw (length-there (index-from s) two-on (not (sh .literal)) (num-at s c 1) (c + 1))
+    (bind-decodes _
+    (times-decode _ s (number-from s) two-on (λ left at. field-decodes 2 (below B) s at) (targets sh (count-from sh s c)) _)
+    give-decodes)))))
 
 pub instr-decodes :
     (w N B : ℕ) (last : Bool) (s : List ℕ) (at : ℕ) →

@@ -97,11 +97,11 @@ module _ {A B : Type 0} (r : Reader A) (f : A → Reader B) (s : List ℕ) (at :
   unfolding _>>=_
   stopped k o e = sym (ap (λ (z : Res A). verdict (then z (λ x p. f x s p))) (verdict-fault (r s at) k o e))
 
+  pub passed-by : (p : ℕ) (v : Next) → verdict (r s at) ≡ At p → ((x : A) → r s at ≡ got x p → v ≡ verdict (f x s p)) → v ≡ verdict ((r >>= f) s at)
+  passed-by p v e h = let (x, g) = verdict-got (r s at) p e in read-is x p v g (h x g)
+
   pub passed : (p : ℕ) (v : Next) → verdict (r s at) ≡ At p → ((x : A) → v ≡ verdict (f x s p)) → v ≡ verdict ((r >>= f) s at)
-  unfolding _>>=_
-  passed p v e h =
-      let (x, g) = verdict-got (r s at) p e in
-      h x ∙ sym (ap (λ (z : Res A). verdict (then z (λ x p. f x s p))) g)
+  passed p v e h = passed-by p v e (λ x g. h x)
 
 -- the place itself
 pub here-is : {B : Type 0} (f : ℕ → Reader B) (s : List ℕ) (at : ℕ) (v : Next) →

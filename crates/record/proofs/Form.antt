@@ -16,7 +16,7 @@ use Rattle.arith.specs.declared.One.the-variants.{Not, Id}
 use Rattle.arith.specs.declared.Two.{Two}
 use Rattle.arith.specs.declared.Two.the-variants.{Add, Sub, Mul, Div, Eq, Lt, Gt, Le, Ge, And, Or, PtrAdd}
 use Rattle.arith.specs.Operation.{constant, one, two}
-use Rattle.arith.specs.Code.{code1, code2, one-of, two-of}
+use Rattle.arith.specs.Code.{code1, code2, with-code, one-of, two-of}
 use Rattle.arith.proofs.Found.{one-found, two-found}
 use Rattle.record.specs.declared.NameIx.{NameIx}
 use Rattle.record.specs.Record.{Instr, arg}
@@ -63,6 +63,15 @@ form-of t i =
     (cond-either P (eqb c 65) _ _ (λ e. of-branch (eqb-true c 65 e))
     (cond-either P (eqb c 66) _ _ (λ e. of-return (eqb-true c 66 e))
     (cond-either P (eqb c 69) _ _ (λ e. of-nop (eqb-true c 69 e)) of-effect))))))
+
+-- i with another code
+abbrev pub recode : Instr → ℕ → Instr
+recode i c = record { id = i .id; code = c; dest = i .dest; lit = i .lit; args = i .args; callee = i .callee; blocks = i .blocks }
+
+-- phi is new each time, over all its arguments
+pub phi-form : (t : NameIx → ℕ) (i : Instr) → i .code ≡ 39 → form t i ≡ new (i .args)
+unfolding form one-of two-of with-code code1 code2
+phi-form t i e = ap (λ (c : ℕ). form t (recode i c)) e
 
 -- ---- the shapes of the operators
 pub one-shape : (o : One) → shape-of (code1 o) ≡ value 1

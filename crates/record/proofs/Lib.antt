@@ -11,6 +11,7 @@ pub mod Takes
 pub mod ReadFrom
 pub mod Sizes
 pub mod Longest
+pub mod Phi
 pub mod Following
 pub mod Fields
 pub mod Decode

@@ -11,7 +11,7 @@ use Rattle.record.specs.declared.NameIx.{NameIx}
 use Rattle.record.specs.declared.Shape.{Shape}
 use Rattle.record.specs.declared.Refusal.the-variants.{Limit}
 use Rattle.record.specs.Record.{Instr, Block, Name, Record, limits, id-bytes}
-use Rattle.record.specs.Shape.{shape-of}
+use Rattle.record.specs.Shape.{targets, shape-of}
 use Rattle.record.specs.Tests.{text-length-test}
 use Rattle.record.specs.Good.{There, Each, ArgsOk, InstrOk, BlockOk, NamesOk, RecordOk}
 use Rattle.record.specs.Write.{instr-bytes, block-bytes, name-bytes, bytes}
@@ -21,7 +21,7 @@ use Rattle.record.proofs.Form.{all-below, at-known}
 use Rattle.record.proofs.Sizes.{join-cons, join-nil, total, instr-size, block-size, name-size, content-size, record-size, id-bytes-are}
 
 -- ---- instructions and blocks
--- at most eight arguments and two block numbers
+-- at most eight arguments, and two block numbers where there is not one for each
 abbrev modest : ℕ → Bool
 modest c = leb (shape-of c .most) 8 && leb (shape-of c .blocks) 2
 
@@ -33,10 +33,16 @@ cond-most : (b : Bool) (n : ℕ) → cond b n 0 ≤ n
 cond-most true n = omega arith
 cond-most false n = omega arith
 
-args-most :
-    (N : ℕ) (sh : Shape) (xs : List NameIx) (b : Bool) → sh .most ≤ 8 → There b (ArgsOk N sh) [] xs → cond b (1 + 2 * length xs) 0 ≤ 17
-args-most N sh xs true m h = let l : length xs ≤ sh .most = count-most sh (length xs) (h .count) in omega arith
-args-most N sh xs false m h = omega arith
+pub args-few : (N : ℕ) (sh : Shape) (xs : List NameIx) (b : Bool) → sh .most ≤ 8 → There b (ArgsOk N sh) [] xs → length xs ≤ 8
+args-few N sh xs true m h = let l : length xs ≤ sh .most = count-most sh (length xs) (h .count) in omega arith
+args-few N sh xs false m h = rw h (omega arith)
+
+pub targets-most : (m n : ℕ) (sh : Shape) → sh .blocks ≤ m → n ≤ m → targets sh n ≤ m
+targets-most m n sh b k = go (sh .each)
+  where
+    go : (e : Bool) → cond e n (sh .blocks) ≤ m
+    go true = k
+    go false = b
 
 -- w: the bytes of an id
 module _ (w : ℕ) (eight : w ≤ 8) where
@@ -46,8 +52,11 @@ module _ (w : ℕ) (eight : w ≤ 8) where
       let m = at-known modest codes-modest (i .code) (code-known (eqb left 0) (i .code) (h .code)) in
       let few : sh .most ≤ 8 = leb-true (sh .most) 8 (and-left (leb (sh .most) 8) _ m) in
       let two : sh .blocks ≤ 2 = leb-true (sh .blocks) 2 (and-right (leb (sh .most) 8) _ m) in
-      let t : sh .blocks ≡ length (i .blocks) = h .rest .targets in
-      let a : cond (not (sh .literal)) (1 + 2 * length (i .args)) 0 ≤ 17 = args-most N sh (i .args) (not (sh .literal)) few (h .rest .args) in
+      let n : length (i .args) ≤ 8 = args-few N sh (i .args) (not (sh .literal)) few (h .rest .args) in
+      let t : targets sh (length (i .args)) ≡ length (i .blocks) = h .rest .targets in
+      let e : targets sh (length (i .args)) ≤ 8 = targets-most 8 (length (i .args)) sh (omega arith) n in
+      let a : cond (not (sh .literal)) (1 + 2 * length (i .args)) 0 ≤ 1 + 2 * length (i .args) =
+      cond-most (not (sh .literal)) (1 + 2 * length (i .args)) in
       let b : cond (sh .dest) 2 0 ≤ 2 = cond-most (sh .dest) 2 in
       let c : cond (sh .literal) 9 0 ≤ 9 = cond-most (sh .literal) 9 in
       let d : cond (sh .callee) 2 0 ≤ 2 = cond-most (sh .callee) 2 in

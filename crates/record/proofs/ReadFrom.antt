@@ -13,7 +13,7 @@ use Rattle.record.specs.declared.Shape.{Shape}
 use Rattle.record.specs.declared.Limits.{Limits}
 use Rattle.record.specs.declared.Refusal.the-variants.{Length}
 use Rattle.record.specs.Record.{Bytes, nm, no-lit, Placed, Block, Record, plain-block, plain, most-args, most-blocks, id-bytes}
-use Rattle.record.specs.Shape.{shape-of}
+use Rattle.record.specs.Shape.{targets, shape-of}
 use Rattle.record.specs.Tests.{any, at-most, below, length-test, version-test, names-test, type-test, text-length-test, text-test, saves-test, code-test, count-test, literal-test}
 use Rattle.record.specs.Reader.{got, refuse, give}
 use Rattle.record.specs.Read.{name-index, literal, arguments, operands, instr, block, name, names, length-field, end, contents, read}
@@ -54,7 +54,7 @@ module _ {s : List ℕ} (h : Bytes s) where
       bind-takes _ _ (there-takes (sh .literal) no-lit literal-bytes literal-takes) (λ lit b hb.
       bind-takes _ _ (there-takes (not (sh .literal)) [] argument-bytes (arguments-take N sh)) (λ args c hc.
       bind-takes _ _ (there-takes (sh .callee) 0 (be 2) (field-takes h 2 any)) (λ callee d hd.
-      bind-takes _ _ (times-takes _ (be 2) (λ left. field-takes h 2 (below B)) (sh .blocks)) (λ blocks e he.
+      bind-takes _ _ (times-takes _ (be 2) (λ left. field-takes h 2 (below B)) (targets sh (length args))) (λ blocks e he.
       give-takes _ (refl, refl, λ i. join (ha i ∷ hb i ∷ hc i ∷ hd i ∷ he .1 i ∷ [])))))))
 
   instr-takes : (w N B : ℕ) (last : Bool) → Takes s (instr w N B last) (λ i b. instr-bytes w (i .it) ≡ b)

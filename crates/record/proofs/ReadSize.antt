@@ -11,7 +11,7 @@ use Rattle.record.specs.declared.Shape.{Shape}
 use Rattle.record.specs.declared.Limits.{Limits}
 use Rattle.record.specs.declared.Test.{Test}
 use Rattle.record.specs.Record.{nm, no-lit, Placed, Record, plain-block, plain, most-args, most-blocks, id-bytes, limits}
-use Rattle.record.specs.Shape.{shape-of}
+use Rattle.record.specs.Shape.{targets, shape-of}
 use Rattle.record.specs.Tests.{any, at-most, below, length-test, version-test, names-test, type-test, text-length-test, text-test, saves-test, code-test, count-test, literal-test}
 use Rattle.record.specs.Reader.{got, Reader, give, field, text, if-there, times}
 use Rattle.record.specs.Read.{name-index, literal, arguments, operands, instr, block, name, names, length-field, end, contents, read}
@@ -97,7 +97,7 @@ module _ {s : List ℕ} where
       bind-takes _ _ (there-spans (sh .literal) no-lit (λ x. 9) literal-spans) (λ lit b hb.
       bind-takes _ _ (there-spans (not (sh .literal)) [] (λ xs. 1 + 2 * length xs) (arguments-span N sh)) (λ args c hc.
       bind-takes _ _ (there-spans (sh .callee) 0 (λ x. 2) (field-spans 2 any)) (λ callee d hd.
-      last-takes _ _ (twos-span (field-spans 2 (below B)) (sh .blocks)) (λ blocks e he.
+      last-takes _ _ (twos-span (field-spans 2 (below B)) (targets sh (length args))) (λ blocks e he.
       (refl, simp length-append (omega (arith, ha, hb, hc, hd, he))))))))
 
   instr-spans : (w N B : ℕ) (last : Bool) → Spans s (instr w N B last) (λ i. length (instr-bytes w (i .it)))

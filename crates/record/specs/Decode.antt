@@ -6,7 +6,7 @@ use lib.ListN.{take, drop}
 use Rattle.record.specs.declared.NameIx.{NameIx}
 use Rattle.record.specs.declared.Shape.{Shape}
 use Rattle.record.specs.Record.{nm, no-lit, Instr, Placed, Block, Name, Record, id-bytes}
-use Rattle.record.specs.Shape.{shape-of}
+use Rattle.record.specs.Shape.{targets, shape-of}
 use Rattle.record.specs.Reader.{num-at}
 
 -- n items in a row, each by its place, and the place behind them; next: the place behind an item
@@ -29,6 +29,10 @@ unfoldable pub number-from : List ℕ → ℕ → ℕ
 number-from s p = num-at s p 2
 
 -- ---- what stands behind an id and a code
+-- how many arguments there are, where their count would stand at a place
+abbrev pub count-from : Shape → List ℕ → ℕ → ℕ
+count-from sh s at = cond (not (sh .literal)) (num-at s at 1) 0
+
 module _ (sh : Shape) (s : List ℕ) (at : ℕ) where
   unfoldable pub lit-at : ℕ
   lit-at = cond (sh .dest) (at + 2) at
@@ -47,7 +51,7 @@ module _ (sh : Shape) (s : List ℕ) (at : ℕ) where
 
   unfoldable pub operands-end : ℕ
   unfolding targets-at
-  operands-end = behind two-on targets-at (sh .blocks)
+  operands-end = behind two-on targets-at (targets sh (count-from sh s count-at))
 
   unfoldable pub operands-from : ℕ → ℕ → Instr
   unfolding lit-at count-at callee-at targets-at
@@ -59,7 +63,7 @@ module _ (sh : Shape) (s : List ℕ) (at : ℕ) where
         lit = cond (sh .literal) (record { kind = num-at s lit-at 1; bits = num-at s (lit-at + 1) 8 }) no-lit;
         args = cond (not (sh .literal)) (items (index-from s) two-on (count-at + 1) (num-at s count-at 1)) [];
         callee = cond (sh .callee) (num-at s callee-at 2) 0;
-        blocks = items (number-from s) two-on targets-at (sh .blocks);
+        blocks = items (number-from s) two-on targets-at (targets sh (count-from sh s count-at));
       }
 
 -- ---- an instruction; w: the bytes of an id

@@ -13,7 +13,7 @@ use Rattle.arith.specs.Code.{one-of, two-of}
 use Rattle.record.specs.declared.NameIx.{NameIx}
 use Rattle.record.specs.Record.{Instr, arg}
 
--- an operation on values; a value that is new each time (20 to 38); an effect that asks the world (67, 68, 70, 71); nop, jmp, br, ret
+-- an operation on values; a value that is new each time (20 to 39); an effect that asks the world (67, 68, 70, 71); nop, jmp, br, ret
 pub data Form : Type 0 where
   pure : Expr NameIx → Form
   new effect return : List NameIx → Form

@@ -48,7 +48,7 @@ pub operations :
 unfolding count form value-of one-of two-of with-code code1 code2
 operations = refl
 
-pub new-each-time : map form-of (count 20 19) ≡ map (λ c. new (nm 1 ∷ nm 2 ∷ [])) (count 20 19)
+pub new-each-time : map form-of (count 20 20) ≡ map (λ c. new (nm 1 ∷ nm 2 ∷ [])) (count 20 20)
 unfolding count form value-of one-of two-of with-code code1 code2
 new-each-time = refl
 

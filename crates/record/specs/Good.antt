@@ -1,5 +1,5 @@
 -- Records whose fields all pass their tests: what an accepted record is, and what reads back.
-use Prim.Native.Nat.{ℕ}
+use Prim.Native.Nat.{ℕ, _<_, _≤_}
 use mathlib.Core.List.{List, [], _∷_, _++_}
 use mathlib.Core.Bool.{Bool, true, false, not}
 use mathlib.Core.Path.{_≡_}
@@ -10,7 +10,7 @@ use Rattle.record.specs.declared.Shape.{Shape}
 use Rattle.record.specs.declared.Limits.{Limits}
 use Rattle.record.specs.declared.Test.the-variants.{Passes}
 use Rattle.record.specs.Record.{nm, Lit, no-lit, Instr, Block, Name, Record, most-args, most-blocks}
-use Rattle.record.specs.Shape.{shape-of}
+use Rattle.record.specs.Shape.{targets, shape-of}
 use Rattle.record.specs.Tests.{any, at-most, below, version-test, names-test, type-test, text-length-test, text-test, saves-test, code-test, count-test, literal-test}
 
 -- a part that is there satisfies P, one that is not is d
@@ -40,8 +40,17 @@ pub record OperandsOk (N B : ℕ) (sh : Shape) (i : Instr) : Type 0 where
   pub lit : There (sh .literal) LitOk no-lit (i .lit)
   pub args : There (not (sh .literal)) (ArgsOk N sh) [] (i .args)
   pub callee : There (sh .callee) (λ x. any x ≡ Passes) 0 (i .callee)
-  pub targets : sh .blocks ≡ length (i .blocks)
+  pub targets : targets sh (length (i .args)) ≡ length (i .blocks)
   pub blocks : Each (λ left x. below B x ≡ Passes) (i .blocks)
+
+-- "argument count 0 to 8, arguments, then one block number per argument. Arguments have dest's type": a phi of a record of B blocks; t: the type
+-- of each name
+pub record PhiOk (B : ℕ) (t : NameIx → ℕ) (i : Instr) : Type 0 where
+  pub few : length (i .args) ≤ 8
+  pub one-each : length (i .blocks) ≡ length (i .args)
+  pub blocks : Each (λ left b. b < B) (i .blocks)
+  pub callee : i .callee ≡ 0
+  pub types : Each (λ left x. t x ≡ t (i .dest)) (i .args)
 
 -- left: how many instructions stand behind it
 pub record InstrOk (N B left : ℕ) (i : Instr) : Type 0 where

@@ -19,6 +19,7 @@ pub mod Literals
 pub mod Limits
 pub mod Order
 pub mod Short
+pub mod Phi
 pub mod Samples
 pub mod Forms
 pub mod View

@@ -8,10 +8,10 @@ use Rattle.record.specs.Reader.{give, _>>=_, here, field, text, if-there
 use Rattle.record.specs.Shape.{shape-of}
 use Rattle.record.specs.Read.{name-index, literal, arguments, operands, instr, block, name, names, length-field, end, contents, read}
 use Rattle.record.specs.Form.{value-of, form}
-use Rattle.record.specs.Typing.{obeys, well-typed, body-types, block-types, accept}
+use Rattle.record.specs.Typing.{each-is, obeys, well-typed, body-types, block-types, accept}
 use Rattle.record.specs.Answer.{number, check-answer, checked, literal-of}
 use Rattle.record.specs.Write.{be, join, when, index-bytes, literal-bytes, argument-bytes, operand-bytes, instr-bytes, block-bytes, name-bytes, content-bytes, bytes}
 
 unfoldable pub all-of-record : Type 0
-unfolding all-of-arith digit-value bytes-from hex type-in id-bytes all-text well-formed undigited reserved same-bytes among any at-most below length-test version-test names-test type-test text-length-test text-test saves-test code-test count-test literal-test give _>>=_ here field text if-there times shape-of name-index literal arguments operands instr block name names length-field end contents read value-of form obeys well-typed body-types block-types accept number check-answer checked literal-of be join when index-bytes literal-bytes argument-bytes operand-bytes instr-bytes block-bytes name-bytes content-bytes bytes
+unfolding all-of-arith digit-value bytes-from hex type-in id-bytes all-text well-formed undigited reserved same-bytes among any at-most below length-test version-test names-test type-test text-length-test text-test saves-test code-test count-test literal-test give _>>=_ here field text if-there times shape-of name-index literal arguments operands instr block name names length-field end contents read value-of form each-is obeys well-typed body-types block-types accept number check-answer checked literal-of be join when index-bytes literal-bytes argument-bytes operand-bytes instr-bytes block-bytes name-bytes content-bytes bytes
 all-of-record = Unit

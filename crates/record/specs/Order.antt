@@ -90,7 +90,7 @@ rows =
     ("00 0000000000000000 0001 0000 00000002 00 0000 02 0000000000000000", refused 7 37) ∷
     ("02 0000000000000000 0001 0000 00000002 00 0000 02 0000000000000000", refused 7 17) ∷
     -- behind it in the next block an unknown code, a name, a limit, or a field past the end
-    ("02 0000000000000000 0001 0000 00000002 27", refused 5 41) ∷ ("02 0000000000000000 0001 0000 00000002 44 01 0001", refused 6 43) ∷
+    ("02 0000000000000000 0001 0000 00000002 28", refused 5 41) ∷ ("02 0000000000000000 0001 0000 00000002 44 01 0001", refused 6 43) ∷
     ("02 0000000000000000 0101 0000", refused 3 33) ∷ ("02 0000000000000000 0000", refused 1 35) ∷ []))))
 
 -- ---- "call, print, ret any type": names of eight types, each given by a call of all of them; call and print of all; ret of each

@@ -9,7 +9,7 @@ use Rattle.record.specs.declared.Shape.{Shape}
 use Rattle.record.specs.declared.Limits.{Limits}
 use Rattle.record.specs.declared.Refusal.the-variants.{Length}
 use Rattle.record.specs.Record.{nm, Lit, no-lit, Instr, Placed, Block, Name, Record, most-args, most-blocks, id-bytes}
-use Rattle.record.specs.Shape.{shape-of}
+use Rattle.record.specs.Shape.{targets, shape-of}
 use Rattle.record.specs.Reader.{got, Reader, refuse, give, _>>=_, here, field, text, if-there, times}
 use Rattle.record.specs.Tests.{any, at-most, below, length-test, version-test, names-test, type-test, text-length-test, text-test, saves-test, code-test, count-test, literal-test}
 
@@ -38,7 +38,7 @@ operands N B sh id code = do
   lit ← if-there (sh .literal) no-lit literal
   args ← if-there (not (sh .literal)) [] (arguments N sh)
   callee ← if-there (sh .callee) 0 (field 2 any)
-  blocks ← times (sh .blocks) (λ left. field 2 (below B))
+  blocks ← times (targets sh (length args)) (λ left. field 2 (below B))
   give (record { id = id; code = code; dest = dest; lit = lit; args = args; callee = callee; blocks = blocks })
 
 -- w: the bytes of an id; last: whether it stands in the last place of its block

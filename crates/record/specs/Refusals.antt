@@ -62,9 +62,9 @@ front =
 -- one instruction, in one block
 abbrev pub instructions : List Row
 instructions =
-    -- phi is unknown; nop, jmp, ret, print, call
+    -- phi; a code that is unknown; nop, jmp, ret, print, call
     behind "01 00 0000 0001 0001 0000 00000007" (
-    ("", refused 1 18) ∷ ("27", refused 5 18) ∷ ("45", refused 1 19) ∷ ("45 01", refused 3 19) ∷ ("45 00", accepted) ∷
+    ("", refused 1 18) ∷ ("27", refused 1 19) ∷ ("28", refused 5 18) ∷ ("45", refused 1 19) ∷ ("45 01", refused 3 19) ∷ ("45 00", accepted) ∷
     ("40 00 0001", refused 6 20) ∷ ("40 00 0000", accepted) ∷ ("42 02", refused 3 19) ∷ ("44 09", refused 3 19) ∷
     ("43 00 FFFF", accepted) ∷ []) ++
     -- an int x: const, add, eq, br

@@ -1,4 +1,4 @@
--- Instructions in short, for the examples: i is the id, c a code, d, x and xs indexes of names, f a callee, b and e blocks.
+-- Instructions in short, for the examples: i is the id, c a code, d, x and xs indexes of names, f a callee, b and e blocks, xbs indexes with blocks.
 use Prim.Native.Nat.{ℕ}
 use mathlib.Core.List.{List, [], _∷_, map}
 use Rattle.record.specs.Record.{nm, no-lit, Instr}
@@ -10,6 +10,11 @@ gives i d c xs = record { id = i; code = c; dest = nm d; lit = no-lit; args = ma
 -- d = call f xs
 abbrev pub asks : ℕ → ℕ → ℕ → List ℕ → Instr
 asks i d f xs = record { id = i; code = 20; dest = nm d; lit = no-lit; args = map nm xs; callee = f; blocks = [] }
+
+-- d = phi, of names each with its block
+abbrev pub joins : ℕ → ℕ → List (ℕ × ℕ) → Instr
+joins i d xbs =
+    record { id = i; code = 39; dest = nm d; lit = no-lit; args = map (λ x. nm (x .0)) xbs; callee = 0; blocks = map (λ x. x .1) xbs }
 
 -- d = a literal
 abbrev pub set : ℕ → ℕ → ℕ → ℕ → Instr

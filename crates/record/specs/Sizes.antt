@@ -12,24 +12,24 @@ most-body = 256
 abbrev pub most-numbers : ℕ
 most-numbers = 512
 
--- what stands behind a code: dest, literal, eight arguments and their count, callee, two blocks, as if a code had them all
+-- what stands behind a code: dest, literal, eight arguments and their count, callee, eight block numbers, as if a code had them all
 abbrev pub longest-operands : ℕ
-longest-operands = 34
+longest-operands = 46
 
 -- an instruction: an id of at most eight bytes, the code and its operands
 abbrev pub longest-instr : ℕ
-longest-instr = 43
+longest-instr = 55
 
 -- an instruction and the save before it
 abbrev pub longest-lines : ℕ
-longest-lines = 86
+longest-lines = 110
 
 -- a block: 4 bytes and 256 instructions; and as it is written, with its saves
 abbrev pub longest-block : ℕ
-longest-block = 12000
+longest-block = 14100
 
 abbrev pub longest-block-lines : ℕ
-longest-block-lines = 24000
+longest-block-lines = 28200
 
 -- all up to the end of the names: 8 bytes and 256 names
 abbrev pub longest-names : ℕ

@@ -25,39 +25,43 @@ numerals (c ∷ˢ s) = cond (eqb (code c) 0x20) (numerals s) ((code c - 0x30) �
 abbrev pub bit : Bool → ℕ
 bit b = cond b 1 0
 
--- ---- what stands behind each code, groups: const, 1 to 9, 10 to 14, 15 to 19, call, 21 to 34, 35 to 38, 39 to 63, 64 to 71, 72 to 75
+-- ---- what stands behind each code, groups: const, 1 to 9, 10 to 14, 15 to 19, call, 21 to 34, 35 to 38, phi, 40 to 63, 64 to 71, 72 to 75
 abbrev pub of-each : (ℕ → ℕ) → List ℕ
 of-each f = map f (count 0 76)
 
-pub known : of-each (λ c. bit (shape-of c .known)) ≡ numerals "1 111111111 11111 00000 1 11111111111111 1111 0000000000000000000000000 11111111 0000"
+pub known : of-each (λ c. bit (shape-of c .known)) ≡ numerals "1 111111111 11111 00000 1 11111111111111 1111 1 000000000000000000000000 11111111 0000"
 unfolding count numerals shape-of
 known = refl
 
-pub literal : of-each (λ c. bit (shape-of c .literal)) ≡ numerals "1 000000000 00000 00000 0 00000000000000 0000 0000000000000000000000000 00000000 0000"
+pub literal : of-each (λ c. bit (shape-of c .literal)) ≡ numerals "1 000000000 00000 00000 0 00000000000000 0000 0 000000000000000000000000 00000000 0000"
 unfolding count numerals shape-of
 literal = refl
 
-pub dest : of-each (λ c. bit (shape-of c .dest)) ≡ numerals "1 111111111 11111 00000 1 11111111111111 1111 0000000000000000000000000 00000000 0000"
+pub dest : of-each (λ c. bit (shape-of c .dest)) ≡ numerals "1 111111111 11111 00000 1 11111111111111 1111 1 000000000000000000000000 00000000 0000"
 unfolding count numerals shape-of
 dest = refl
 
-pub fewest-arguments : of-each (λ c. shape-of c .few) ≡ numerals "0 222222222 12212 00000 0 22222222222222 1111 0000000000000000000000000 01000021 0000"
+pub fewest-arguments : of-each (λ c. shape-of c .few) ≡ numerals "0 222222222 12212 00000 0 22222222222222 1111 0 000000000000000000000000 01000021 0000"
 unfolding count numerals shape-of
 fewest-arguments = refl
 
-pub most-arguments : of-each (λ c. shape-of c .most) ≡ numerals "0 222222222 12212 00000 8 22222222222222 1111 0000000000000000000000000 01188021 0000"
+pub most-arguments : of-each (λ c. shape-of c .most) ≡ numerals "0 222222222 12212 00000 8 22222222222222 1111 8 000000000000000000000000 01188021 0000"
 unfolding count numerals shape-of
 most-arguments = refl
 
-pub callee : of-each (λ c. bit (shape-of c .callee)) ≡ numerals "0 000000000 00000 00000 1 00000000000000 0000 0000000000000000000000000 00010000 0000"
+pub callee : of-each (λ c. bit (shape-of c .callee)) ≡ numerals "0 000000000 00000 00000 1 00000000000000 0000 0 000000000000000000000000 00010000 0000"
 unfolding count numerals shape-of
 callee = refl
 
-pub blocks : of-each (λ c. shape-of c .blocks) ≡ numerals "0 000000000 00000 00000 0 00000000000000 0000 0000000000000000000000000 12000000 0000"
+pub blocks : of-each (λ c. shape-of c .blocks) ≡ numerals "0 000000000 00000 00000 0 00000000000000 0000 0 000000000000000000000000 12000000 0000"
 unfolding count numerals shape-of
 blocks = refl
 
-pub last : of-each (λ c. bit (shape-of c .last)) ≡ numerals "0 000000000 00000 00000 0 00000000000000 0000 0000000000000000000000000 11100000 0000"
+pub each : of-each (λ c. bit (shape-of c .each)) ≡ numerals "0 000000000 00000 00000 0 00000000000000 0000 1 000000000000000000000000 00000000 0000"
+unfolding count numerals shape-of
+each = refl
+
+pub last : of-each (λ c. bit (shape-of c .last)) ≡ numerals "0 000000000 00000 00000 0 00000000000000 0000 0 000000000000000000000000 11100000 0000"
 unfolding count numerals shape-of
 last = refl
 

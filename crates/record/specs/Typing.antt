@@ -15,7 +15,7 @@ use Rattle.record.specs.Read.{read}
 
 -- what a code asks of the types of its dest and its arguments
 pub data Rule : Type 0 where
-  free fits-dest copies shifts allocates loads stores frees branches : Rule
+  free fits-dest copies shifts allocates loads joins stores frees branches : Rule
   takes : List ℕ → ℕ → Rule
 
 -- each row is for the codes above the row before it, up to its own
@@ -37,11 +37,12 @@ rules =
     (24, takes (tfloat ∷ tfloat ∷ []) tfloat) ∷
     (29, takes (tfloat ∷ tfloat ∷ []) tbool) ∷
     (34, takes (tchar ∷ tchar ∷ []) tbool) ∷
-    -- char2int, int2char, alloc, load
+    -- char2int, int2char, alloc, load, phi
     (35, takes (tchar ∷ []) tint) ∷
     (36, takes (tint ∷ []) tchar) ∷
     (37, allocates) ∷
     (38, loads) ∷
+    (39, joins) ∷
     -- jmp; br; ret, call, print, nop; store; free
     (64, free) ∷
     (65, branches) ∷
@@ -58,6 +59,11 @@ literal-fits kind t = eqb t kind || (eqb kind 0 && eqb t tfloat)
 abbrev pub points-to : ℕ → ℕ → Bool
 points-to p t = eqb p (t + 0x10)
 
+-- phi: "Arguments have dest's type."
+unfoldable pub each-is : ℕ → List ℕ → Bool
+each-is t [] = true
+each-is t (x ∷ xs) = eqb x t && each-is t xs
+
 -- t: the type of each name
 unfoldable pub obeys : Rule → (NameIx → ℕ) → Instr → Bool
 obeys free t i = true
@@ -66,6 +72,7 @@ obeys copies t i = eqb (t (i .dest)) (t (arg i 0))
 obeys shifts t i = is-pointer (t (arg i 0)) && (eqb (t (arg i 1)) tint && eqb (t (i .dest)) (t (arg i 0)))
 obeys allocates t i = eqb (t (arg i 0)) tint && is-pointer (t (i .dest))
 obeys loads t i = points-to (t (arg i 0)) (t (i .dest))
+obeys joins t i = each-is (t (i .dest)) (map t (i .args))
 obeys stores t i = points-to (t (arg i 0)) (t (arg i 1))
 obeys frees t i = is-pointer (t (arg i 0))
 obeys branches t i = eqb (t (arg i 0)) tbool

@@ -7,7 +7,7 @@ use Rattle.record.specs.declared.Op.{Op}
 use Rattle.record.specs.declared.Op.the-variants.{Const, One, Two, New, Effect, Nop, Jmp, Br, Ret}
 use Rattle.record.specs.declared.Instruction.{Instruction}
 use Rattle.record.specs.Record.{nm, Instr}
-use Rattle.record.specs.Shape.{shape-of}
+use Rattle.record.specs.Shape.{targets, shape-of}
 use Rattle.record.specs.Answer.{literal-of}
 
 unfoldable pub code-of : Op → ℕ
@@ -30,5 +30,5 @@ instr-of i =
       lit = literal-of (i .literal);
       args = map nm (take (i .count) (i .args));
       callee = i .callee;
-      blocks = take (shape-of (code-of (i .op)) .blocks) (i .blocks);
+      blocks = take (targets (shape-of (code-of (i .op))) (i .count)) (i .blocks);
     }

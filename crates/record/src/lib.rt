@@ -17,7 +17,7 @@ pub enum Literal {
     Char(u32),
 }
 
-// What an instruction does, by form: const; codes 1 to 14; codes 20 to 38, which give a new value each time; 67, 68, 70 and 71; nop, jmp, br and ret.
+// What an instruction does, by form: const; codes 1 to 14; codes 20 to 39, which give a new value each time; 67, 68, 70 and 71; nop, jmp, br and ret.
 pub enum Op {
     Const,
     One(One),
@@ -30,7 +30,8 @@ pub enum Op {
     Ret,
 }
 
-// An instruction. Parts that its operation does not have are 0; of the arguments the first `count` count.
+// An instruction. Parts that its operation does not have are 0; of the arguments the first `count` count, of the block numbers as many as
+// its operation has, which for phi is one for each argument.
 pub struct Instruction {
     pub id: u64,
     pub op: Op,
@@ -39,11 +40,11 @@ pub struct Instruction {
     pub count: u8,
     pub args: [u16; 8],
     pub callee: u16,
-    pub blocks: [u16; 2],
+    pub blocks: [u16; 8],
 }
 
 // What follows an instruction's code: whether the code is known and stands last in its block, whether a literal and a destination follow,
-// the fewest and the most arguments, whether a callee follows, and how many block numbers.
+// the fewest and the most arguments, whether a callee follows, and how many block numbers, or whether one for each argument.
 pub struct Shape {
     pub known: bool,
     pub last: bool,
@@ -53,6 +54,7 @@ pub struct Shape {
     pub most: u8,
     pub callee: bool,
     pub blocks: u8,
+    pub each: bool,
 }
 
 // What a record is read with: the most names, the longest text, the most instructions of a block, and whether made names may stand in it,

@@ -9,7 +9,7 @@ use lib.Seq.{length-take-le}
 use Rattle.record.specs.declared.Shape.{Shape}
 use Rattle.record.specs.declared.Instruction.{Instruction}
 use Rattle.record.specs.Record.{nm, Lit}
-use Rattle.record.specs.Shape.{shape-of}
+use Rattle.record.specs.Shape.{targets, shape-of}
 use Rattle.record.specs.Write.{be, join, when, index-bytes, literal-bytes, argument-bytes, operand-bytes, instr-bytes}
 use Rattle.record.specs.Answer.{literal-of}
 use Rattle.record.specs.View.{code-of, instr-of}
@@ -73,12 +73,12 @@ pub operands-wrote :
     Wrote m₁ m₂ p₁ p₂ (when (sh .literal) (literal-bytes (literal-of (x .literal)))) →
     Wrote m₂ m₃ p₂ p₃ (when (not (sh .literal)) (argument-bytes (map nm (take (x .count) (x .args))))) →
     Wrote m₃ m₄ p₃ p₄ (when (sh .callee) (be 2 (x .callee))) →
-    Wrote m₄ r p₄ p (join (map (be 2) (take (sh .blocks) (x .blocks)))) →
+    Wrote m₄ r p₄ p (join (map (be 2) (take (targets sh (x .count)) (x .blocks)))) →
     Wrote l r i p (operand-bytes sh (instr-of x))
 unfolding operand-bytes instr-of index-bytes
 operands-wrote sh x e a b c d f =
     wrote-join _ _ a (wrote-join _ _ b (wrote-join _ _ c (wrote-join _ _ d
-    (wrote-last _ (rw (ap (λ (t : Shape). take (t .blocks) (x .blocks)) e) at f)))))
+    (wrote-last _ (rw (ap (λ (t : Shape). take (targets t (x .count)) (x .blocks)) e) at f)))))
 
 pub instr-wrote :
     {l m n r : List ℕ} {i p : ℕ} (w code : ℕ) (sh : Shape) (x : Instruction) →

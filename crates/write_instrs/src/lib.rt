@@ -72,10 +72,10 @@ fn put_args(out: &mut [u8], at: usize, there: bool, n: u8, args: [u16; 8]) -> us
     at
 }
 
-// The first n of two block numbers.
-fn put_targets(out: &mut [u8], at: usize, n: u8, blocks: [u16; 2]) -> usize
-    requires { ⌜ (at + 4 < places) × (n ≤ 2) ⌝ }
-    ensures { λ r. ⌜ Wrote (now (out .entry)) (now (out .exit)) at r (join (map (be 2) (take n blocks))) × (r ≤ at + 4) ⌝ }
+// The first n of eight block numbers.
+fn put_targets(out: &mut [u8], at: usize, n: u64, blocks: [u16; 8]) -> usize
+    requires { ⌜ (at + 16 < places) × (n ≤ 8) ⌝ }
+    ensures { λ r. ⌜ Wrote (now (out .entry)) (now (out .exit)) at r (join (map (be 2) (take n blocks))) × (r ≤ at + 16) ⌝ }
 {
     put_row(out, at, &blocks, n as usize)
 }
@@ -92,7 +92,7 @@ fn put_operands(out: &mut [u8], at: usize, sh: Shape, i: Instruction) -> usize
     let q = put_literal(out, p, sh.literal, literal);
     let r = put_args(out, q, !sh.literal, i.count, args);
     let t = put_two(out, r, sh.callee, i.callee);
-    put_targets(out, t, sh.blocks, blocks)
+    put_targets(out, t, read_shapes::targets(sh, i.count as u64), blocks)
 }
 
 // An instruction; w: the bytes of an id.

@@ -9,9 +9,9 @@ pub effect-rule-spec : {M : Type 1} → statement M
 effect-rule-spec =
     tie.close
     (tie.spec
-    (λ c. rule-row 15 39 64 _ _ _ refl refl (omega arith) (omega arith))
-    (λ c. rule-row 16 65 65 _ _ _ refl refl (omega arith) (omega arith))
-    (λ c. rule-row 18 70 70 _ _ _ refl refl (omega arith) (omega arith))
-    (λ c. rule-row 17 66 69 _ _ _ refl refl (omega arith) (omega arith))
+    (λ c. rule-row 16 40 64 _ _ _ refl refl (omega arith) (omega arith))
+    (λ c. rule-row 17 65 65 _ _ _ refl refl (omega arith) (omega arith))
+    (λ c. rule-row 19 70 70 _ _ _ refl refl (omega arith) (omega arith))
+    (λ c. rule-row 18 66 69 _ _ _ refl refl (omega arith) (omega arith))
     (λ c. absurd (omega arith))
-    (λ c. rule-row 19 71 71 _ _ _ refl refl (omega arith) (omega arith)))
+    (λ c. rule-row 20 71 71 _ _ _ refl refl (omega arith) (omega arith)))

@@ -11,4 +11,4 @@ rule-of-spec =
     tie.close
     (tie.spec (λ c κs. search needs) (λ c κs. search needs) (λ c κs. search needs) (λ c. search needs)
     (λ c. search needs) (λ c. search needs) (λ c. rule-row 7 15 20 _ _ _ refl refl (omega arith) (omega arith))
-    (λ c. rule-row 15 39 64 _ _ _ refl refl (omega arith) (omega arith)) (λ c. rule-none _ (omega arith)))
+    (λ c. rule-row 16 40 64 _ _ _ refl refl (omega arith) (omega arith)) (λ c. rule-none _ (omega arith)))

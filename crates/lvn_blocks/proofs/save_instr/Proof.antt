@@ -2,11 +2,12 @@
 use mathlib.Core.List.{[], _∷_}
 use mathlib.Core.Path.{refl}
 use native.Mathlib.Omega.{arith}
-use lib.ListN.{take}
+use lib.ListN.{take, replicate}
 use Rattle.arith.specs.declared.One.the-variants.{Id}
 use Rattle.arith.specs.Code.{code1}
 use Rattle.record.specs.Answer.{literal-of}
 use Rattle.record.specs.Record.{no-lit}
+use Rattle.record.specs.Shape.{targets}
 use Rattle.record.specs.View.{code-of, instr-of}
 use Rattle.record.proofs.Form.{one-shape}
 use Rattle.lvn_blocks.proofs.save_instr.Statement.{statement}
@@ -24,7 +25,7 @@ returns c =
             lit = no-lit;
             args = a .i .dest ∷ [];
             callee = 0;
-            blocks = take (one-shape Id z .blocks) (0 ∷ 0 ∷ []);
+            blocks = take (targets (one-shape Id z) 1) (replicate 8 0);
           }),
       (refl, omega arith),
     )

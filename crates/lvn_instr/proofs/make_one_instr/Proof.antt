@@ -1,12 +1,13 @@
 -- `lvn_instr::make_one_instr` meets its contract: field by field.
 use mathlib.Core.List.{[], _∷_}
 use native.Mathlib.Omega.{arith}
-use lib.ListN.{take}
+use lib.ListN.{take, replicate}
 use borrow.Author.Needs.{needs}
 use Rattle.arith.specs.Code.{code1}
 use Rattle.record.proofs.Form.{one-shape}
 use Rattle.record.specs.Answer.{literal-of}
 use Rattle.record.specs.Record.{no-lit}
+use Rattle.record.specs.Shape.{targets}
 use Rattle.record.specs.View.{code-of, instr-of}
 use Rattle.lvn_instr.proofs.make_one_instr.Statement.{statement}
 use Rattle.lvn_instr.proofs.make_one_instr.Tie as tie
@@ -21,7 +22,7 @@ returns c = let a = c .before .before .before .args in (
     lit = no-lit;
     args = c .home-in .ensures z ∷ [];
     callee = 0;
-    blocks = take (one-shape (a .o) z .blocks) (0 ∷ 0 ∷ []);
+    blocks = take (targets (one-shape (a .o) z) 1) (replicate 8 0);
   }),
   omega arith,
 )

@@ -3,7 +3,7 @@ use mathlib.Core.Path.{refl}
 use lib.ListN.{take}
 use borrow.Author.Needs.{needs}
 use Rattle.record.specs.Answer.{literal-of}
-use Rattle.record.specs.Shape.{shape-of}
+use Rattle.record.specs.Shape.{targets, shape-of}
 use Rattle.record.specs.View.{code-of, instr-of}
 use Rattle.lvn_instr.proofs.rewrite_instr.Statement.{statement}
 use Rattle.lvn_instr.proofs.rewrite_instr.Tie as tie
@@ -18,7 +18,7 @@ returns c = let i = c .before .before .before .before .before .before .args .i i
     lit = literal-of (i .literal);
     args = c .replace-args .ensures s d e z;
     callee = i .callee;
-    blocks = take (shape-of (code-of (i .op)) .blocks) (i .blocks);
+    blocks = take (targets (shape-of (code-of (i .op))) (i .count)) (i .blocks);
   }),
   (refl, refl),
 )

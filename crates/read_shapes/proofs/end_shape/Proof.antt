@@ -10,6 +10,6 @@ pub end-shape-spec : {M : Type 1} → statement M
 end-shape-spec =
     tie.close
     (tie.spec (λ c κs. search needs) (λ c κs. search needs) (λ c κs. search needs)
-    (λ c. c .terminator .ensures ∙ shape-row 11 64 64 _ _ _ refl refl (omega arith) (omega arith))
-    (λ c. c .terminator2 .ensures ∙ shape-row 12 65 65 _ _ _ refl refl (omega arith) (omega arith))
-    (λ c. c .terminator3 .ensures ∙ shape-row 13 66 66 _ _ _ refl refl (omega arith) (omega arith)))
+    (λ c. c .terminator .ensures ∙ shape-row 12 64 64 _ _ _ refl refl (omega arith) (omega arith))
+    (λ c. c .terminator2 .ensures ∙ shape-row 13 65 65 _ _ _ refl refl (omega arith) (omega arith))
+    (λ c. c .terminator3 .ensures ∙ shape-row 14 66 66 _ _ _ refl refl (omega arith) (omega arith)))

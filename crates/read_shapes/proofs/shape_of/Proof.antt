@@ -11,4 +11,4 @@ shape-of-spec =
     tie.close
     (tie.spec (λ c κs. search needs) (λ c κs. search needs) (λ c κs. search needs) (λ c. shape-row 0 0 0 _ _ _ refl refl (omega arith) (omega arith))
     (λ c. search needs) (λ c. search needs) (λ c. search needs) (λ c. shape-row 6 15 19 _ _ _ refl refl (omega arith) (omega arith))
-    (λ c. shape-row 10 39 63 _ _ _ refl refl (omega arith) (omega arith)) (λ c. shape-none _ (omega arith)))
+    (λ c. shape-row 11 40 63 _ _ _ refl refl (omega arith) (omega arith)) (λ c. shape-none _ (omega arith)))
