@@ -4,9 +4,10 @@ use bril_rs::{EffectOps, ValueOps};
 
 pub const CONST: u8 = 0;
 pub const VALUE_CALL: u8 = 20;
+pub const PHI: u8 = 39;
 pub const EFFECT_CALL: u8 = 67;
 
-pub const VALUES: [(u8, ValueOps); 33] = [
+pub const VALUES: [(u8, ValueOps); 34] = [
     (1, ValueOps::Add),
     (2, ValueOps::Sub),
     (3, ValueOps::Mul),
@@ -40,6 +41,7 @@ pub const VALUES: [(u8, ValueOps); 33] = [
     (36, ValueOps::Int2char),
     (37, ValueOps::Alloc),
     (38, ValueOps::Load),
+    (PHI, ValueOps::Phi),
 ];
 
 pub const EFFECTS: [(u8, EffectOps); 8] = [

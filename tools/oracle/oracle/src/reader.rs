@@ -1,7 +1,7 @@
 //! A function record as the Rust's values. Only what is needed to build them
 //! is tested: the records given are those that check accepts.
 
-use crate::ops::{self, CONST, EFFECTS, EFFECT_CALL, VALUES, VALUE_CALL};
+use crate::ops::{self, CONST, EFFECTS, EFFECT_CALL, PHI, VALUES, VALUE_CALL};
 use bril_rs::{Argument, ConstOps, EffectOps, Function, Instruction, Literal, Type};
 use cfg::BasicBlock;
 
@@ -86,7 +86,8 @@ fn instruction(r: &mut Reader, names: &[(u8, String)]) -> Option<(u64, Instructi
         .collect::<Option<Vec<_>>>()?;
     let funcs = numbers(r, usize::from(code == VALUE_CALL || code == EFFECT_CALL))?;
     if let Some((dest, op_type)) = dest {
-        let (op, labels) = (value_op?, vec![]);
+        let op = value_op?;
+        let labels = numbers(r, if code == PHI { args.len() } else { 0 })?;
         return Some((id, Instruction::Value { args, dest, funcs, labels, op, pos: None, op_type }));
     }
     let op = ops::op(&EFFECTS, code)?;
