@@ -1,6 +1,6 @@
-"""Puts C13 to C16 and all stored rewritings into the list that the program
-replay_rewrite replays: a line holds a record, 0, its saves and its rewriting, or a
-record and the number and offset of its refusal.
+"""Puts C13 to C16, the records of phis and all other stored rewritings into the
+list that the program replay_rewrite replays: a line holds a record, 0, its saves
+and its rewriting, or a record and the number and offset of its refusal.
 
 Usage: cases.py > crates/replay_rewrite/stdin
 """
@@ -28,10 +28,10 @@ def main():
         label, record, *answer = line.split()
         if int(label[1:].rstrip("ab")) >= FIRST:
             print(case(record, answer))
-    for name in ("rewritings.txt", "quotients.txt"):
+    for name in ("phis.txt", "rewritings.txt", "quotients.txt"):
         for line in (VECTORS / name).read_text().splitlines():
-            record, *answer = line.split()
-            print(case(record, answer))
+            record, answer = line.split()[-2:]
+            print(case(record, [answer]))
 
 
 if __name__ == "__main__":

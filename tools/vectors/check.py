@@ -1,6 +1,6 @@
 """Document 01's check: the first refusal of a record, or None if accepted.
 
-Written from document 01, with a reader of its own.
+Written from document 01 and Point 5 of document 02, with a reader of its own.
 """
 
 import re
@@ -15,7 +15,7 @@ COUNTS = {0: None}
 COUNTS.update((c, (2, 2)) for c in (*range(1, 10), 11, 12, 14, *range(21, 35), 70))
 COUNTS.update((c, (1, 1)) for c in (10, 13, *range(35, 39), 65, 71))
 COUNTS.update((c, (0, 0)) for c in (64, 69))
-COUNTS.update({20: (0, 8), 67: (0, 8), 68: (0, 8), 66: (0, 1)})
+COUNTS.update({20: (0, 8), 39: (0, 8), 67: (0, 8), 68: (0, 8), 66: (0, 1)})
 
 # Types of the arguments and of dest, for codes where these are fixed.
 FIXED = {c: ((INT, INT), INT) for c in range(1, 5)}
@@ -113,7 +113,7 @@ class Check:
         args = [self.name() for _ in range(count)]
         if code in (20, 67):
             self.number(2)
-        for _ in range({64: 1, 65: 2}.get(code, 0)):
+        for _ in range({39: count, 64: 1, 65: 2}.get(code, 0)):
             self.number(2, self.blocks - 1, 6)
         return offset, code, dest, None, args
 
@@ -132,6 +132,8 @@ class Check:
             return of[0] == INT and to >= POINTER
         if code == 38:
             return of[0] >= POINTER and to == of[0] - POINTER
+        if code == 39:
+            return all(t == to for t in of)
         if code == 70:
             return of[0] >= POINTER and of[1] == of[0] - POINTER
         if code == 71:

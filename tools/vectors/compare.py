@@ -1,8 +1,9 @@
 """Compares the altered Rust with stored answers, or with the model.
 
-compare.py                     the Rust against vectors/*.txt
+compare.py                     the Rust against vectors/*.txt and the longest record
 compare.py --random N [--seed S]   the Rust against model.py on N random records
 compare.py --divisions N [--seed S]   the same on N random records of divisions
+compare.py --phis N [--seed S]   the same on N random records of phis
 compare.py --exhaustive        the same on all small records of exhaustive.py
 On a record without gt and ge the unaltered Rust must answer the same. The last
 line is `N passed, M failed`.
@@ -16,8 +17,8 @@ from collections import Counter
 from pathlib import Path
 
 from check import check
-from exhaustive import comparisons, operations, short_blocks
-from generate import divisions, records
+from exhaustive import comparisons, operations, phis as small_phis, short_blocks
+from generate import divisions, phis, records
 from model import GE, GT, Model, rewrite
 from record import from_bytes, to_bytes, to_text
 
@@ -64,20 +65,25 @@ def say_asked(count):
     print("%d records without gt and ge: the unaltered Rust was asked for them too" % count)
 
 
+def cases():
+    """Label, record and answer of each stored record."""
+    for name in ("worked.txt", "phis.txt"):
+        for line in (TOP / "vectors" / name).read_text().splitlines():
+            yield line.split(" ", 2)
+    for name in ("rewritings.txt", "quotients.txt"):
+        for n, line in enumerate((TOP / "vectors" / name).read_text().splitlines(), 1):
+            yield ["%s:%d" % (name, n), *line.split(" ", 1)]
+    yield ["longest", *((TOP / "crates/run_longest" / end).read_bytes().hex() for end in ("stdin", "stdout"))]
+
+
 def stored():
     """Pairs of a label and whether it agrees. A refused record is not given
     to the Rust; on C7 and on the records of quotients.txt it is to panic. Both
     are compared with the model alone, as all others are too."""
-    cases = []
-    for line in (TOP / "vectors/worked.txt").read_text().splitlines():
-        cases.append(line.split(" ", 2))
-    for name in ("rewritings.txt", "quotients.txt"):
-        for n, line in enumerate((TOP / "vectors" / name).read_text().splitlines(), 1):
-            cases.append(["%s:%d" % (name, n), *line.split(" ", 1)])
-    asked = [c for c in cases if not c[2].startswith("refused")]
+    asked = [c for c in cases() if not c[2].startswith("refused")]
     answers = dict(zip((c[0] for c in asked), both([c[1] for c in asked])))
     say_asked(sum(same is not None for _, same in answers.values()))
-    for label, record, out in cases:
+    for label, record, out in cases():
         by_model = rewrite(bytes.fromhex(record))
         agree = out == (by_model if isinstance(by_model, str) else by_model.hex())
         if label in answers:
@@ -130,6 +136,7 @@ def main():
     p = argparse.ArgumentParser()
     p.add_argument("--random", type=int)
     p.add_argument("--divisions", type=int)
+    p.add_argument("--phis", type=int)
     p.add_argument("--seed", type=int, default=1)
     p.add_argument("--exhaustive", action="store_true")
     a = p.parse_args()
@@ -138,9 +145,11 @@ def main():
         passed, failed = against_model(records(a.seed, a.random))
     elif a.divisions is not None:
         passed, failed = against_model(divisions(a.seed, a.divisions))
+    elif a.phis is not None:
+        passed, failed = against_model(phis(a.seed, a.phis))
     elif a.exhaustive:
-        passed, failed = map(sum, zip(against_model(operations()), against_model(short_blocks()),
-                                      against_model(comparisons())))
+        families = operations(), short_blocks(), comparisons(), small_phis()
+        passed, failed = map(sum, zip(*map(against_model, families)))
     else:
         results = list(stored())
         for label, agree in results:

@@ -14,7 +14,7 @@ Each line: the record in hex, the refusal's number and offset; 0 0 if accepted.
 import sys
 
 from check import check
-from record import CALLS, INT, TARGETS, VALUE, from_text
+from record import CALLS, INT, PHI, VALUE, from_text, target_count
 
 FUNCTION = """arg a int
 arg b int
@@ -56,6 +56,25 @@ block
 26 ret x
 """
 
+# A record of phis; its indexes of names go beyond those of its blocks.
+PHIS = """arg a int
+arg b int
+name x int
+name c bool
+name p ptr<int>
+name q ptr<int>
+block
+1 x = phi a b .2 .0
+2 x = phi
+3 c = phi c .1
+4 q = phi p q .0 .1
+5 x = phi a b x a b x a b .0 .1 .2 .0 .1 .2 .0 .1
+block
+6 jmp .2
+block
+7 x = phi x x .0 .2
+"""
+
 
 def fields_of(f):
     """The fields of a record behind L: name, value, width; an id starts an instruction."""
@@ -76,7 +95,7 @@ def fields_of(f):
             out += [("argument", x, 2) for x in i.args]
             if i.code in CALLS:
                 out.append(("callee", i.callee, 2))
-            out += [("block", t, 2) for t in i.targets[:TARGETS.get(i.code, 0)]]
+            out += [("block", t, 2) for t in i.targets[:target_count(i.code, len(i.args))]]
     return out
 
 
@@ -109,6 +128,11 @@ class Record:
         name, value, width = self.fields[k]
         return with_length(body + field_bytes(value, width)[:inside])
 
+    def of(self, number, name, nth=0):
+        """The field of this name, the nth of them, in the instruction with this id."""
+        start = self.fields.index(("id", number, 4))
+        return [k for k in range(start, len(self.fields)) if self.fields[k][0] == name][nth]
+
     def start_of(self, k):
         """The offset of the instruction that field k belongs to."""
         while self.fields[k][0] != "id":
@@ -135,7 +159,7 @@ def field_damages(r, names, blocks):
             "B": [(65, 3), (65535, 3)],
             "n": [(257, 3), (65535, 3)],
             "saves": [(1, 3), (65535, 3)],
-            "code": [(15, 5), (19, 5), (39, 5), (63, 5), (72, 5), (255, 5)],
+            "code": [(15, 5), (19, 5), (40, 5), (63, 5), (72, 5), (255, 5)],
             "dest": [(names, 6), (65535, 6)],
             "kind": [(4, 3), (255, 3)],
             "argument": [(names, 6), (65535, 6)],
@@ -183,9 +207,9 @@ def more_damages(r):
             yield r.changed(k, 0x10FFFF).bytes(), (0, 0)
             yield r.changed(k, 0xE000).bytes(), (0, 0)
         if name == "count":
-            most = 8 if code in (20, 67, 68) else 1 if code == 66 else value
+            most = 8 if code in (20, PHI, 67, 68) else 1 if code == 66 else value
             yield r.changed(k, most + 1).bytes(), (3, at)
-            if code not in (20, 67, 68, 66) and value > 0:
+            if code not in (20, PHI, 67, 68, 66) and value > 0:
                 yield r.changed(k, value - 1).bytes(), (3, at)
         if name == "callee":
             yield r.changed(k, 65535).bytes(), (0, 0)
@@ -216,9 +240,10 @@ def type_damages(r, types):
             others = [x for x in others if not (kind == 0 and types[x] in (0, 2))]
         if code == 71:
             others = [x for x in others if types[x] < 16]
+        passes = code == PHI and name == "dest" and r.fields[k + 1][1] == 0  # no argument, so any type
         for other in others[:1]:
             damaged = r.changed(k, other).bytes()
-            yield damaged, (7, r.start_of(k))
+            yield damaged, (0, 0) if passes else (7, r.start_of(k))
             yield with_length(damaged[4:] + b"\x00"), (1, len(damaged))
 
 
@@ -229,6 +254,27 @@ def first_damages(r):
     for delta in (-1, 1, 256):
         yield (len(whole) - 4 + delta).to_bytes(4, "big") + whole[4:], (1, 0)
     yield b"\x00\x00\x00\x00", (1, 4)
+
+
+def phi_damages(f):
+    """The blocks of a record of phis, damaged in each of these ways."""
+    r, types = Record(fields_of(f)), [t for t, _ in f.names]
+    first = next(at for at, field in zip(r.offsets, r.fields) if field[0] == "n")
+    yield r.bytes(), (0, 0)
+    for damages in (cuts(r), field_damages(r, len(f.names), len(f.blocks)), more_damages(r), type_damages(r, types)):
+        yield from (d for d in damages if d[1] == (0, 0) or d[1][1] >= first)
+    yield from two_damages(r)
+
+
+def two_damages(r):
+    """Two at a time: that of the field that is read first is refused, and types behind all fields."""
+    order = [r.of(1, "dest"), r.of(1, "count"), r.of(1, "argument", 0), r.of(1, "argument", 1), r.of(1, "block", 0),
+             r.of(1, "block", 1), r.of(3, "dest"), r.of(7, "block", 1)]
+    for k, later in zip(order, order[1:]):
+        yield r.changed(k, 200).changed(later, 200).bytes(), (3 if r.fields[k][0] == "count" else 6, r.offsets[k])
+    wrong = r.changed(r.of(1, "argument", 1), r.fields[r.of(3, "dest")][1])
+    yield wrong.changed(r.of(4, "dest"), 0).bytes(), (7, r.start_of(r.of(1, "dest")))
+    yield wrong.changed(order[-1], 200).bytes(), (6, r.offsets[order[-1]])
 
 
 def accepted():
@@ -255,6 +301,7 @@ def cases():
     yield from more_damages(r)
     yield from type_damages(r, types)
     yield from accepted()
+    yield from phi_damages(from_text(PHIS))
 
 
 def main():

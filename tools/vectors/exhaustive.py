@@ -2,7 +2,7 @@
 
 from itertools import product
 
-from record import BOOL, INT, POINTER, Block, Function, Instr, to_bytes, unsigned
+from record import BOOL, INT, PHI, POINTER, Block, Function, Instr, to_bytes, unsigned
 
 INTS = [0, 1, 2, 3, -1, 7, -7, (1 << 63) - 1, -(1 << 63)]
 A, B, C, U, V, R = range(6)
@@ -69,3 +69,19 @@ def comparisons():
     for size in (1, 2, 3):
         for block in product(instrs, repeat=size):
             yield to_bytes(Function(2, names, [Block(list(block))]))
+
+
+def phis():
+    """Every function of two blocks with three instructions in all, over an int
+    argument a and an int x: phi of none, of one and of two, const 1, id of each
+    into the other, both printed."""
+    names = [(INT, "a"), (INT, "x")]
+    two = (0, 1)
+    instrs = [Instr(7, PHI, d) for d in two]
+    instrs += [Instr(7, PHI, d, args=[a], targets=[1 - d]) for d in two for a in two]
+    instrs += [Instr(7, PHI, d, args=[a, b], targets=[0, 1]) for d in two for a in two for b in two]
+    instrs += [Instr(7, 0, d, INT, 1) for d in two]
+    instrs += [Instr(7, 13, d, args=[1 - d]) for d in two] + [Instr(7, 68, args=[0, 1])]
+    for block in product(instrs, repeat=3):
+        for first in range(4):
+            yield to_bytes(Function(1, names, [Block(list(block[:first])), Block(list(block[first:]))]))

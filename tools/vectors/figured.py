@@ -3,9 +3,9 @@ replay_figures replays: a line holds a record, 0, the bytes and the saves of its
 rewriting and the count of instructions in each block there; or a record, the
 number and offset of its refusal, and 0.
 
-The rewritings are those of C1 to C16 and of the Rust, and two by model.py: of a
-function without a block, and of a block with the greatest figure. The refusals
-are C16b and, of each number, the first of the damaged records.
+The rewritings are those of C1 to C16, of phis and of the Rust, and two by
+model.py: of a function without a block, and of a block with the greatest figure.
+The refusals are C16b and, of each number, the first of the damaged records.
 
 Usage: figured.py > crates/replay_figures/stdin
 """
@@ -39,8 +39,9 @@ def main():
     for _, record, *answer in lines(TOP / "vectors" / "worked.txt"):
         refused = answer[0] == "refused"
         print(refusal(record, answer[1], answer[3]) if refused else figures(record, *answer))
-    for record, rewriting in lines(TOP / "vectors" / "rewritings.txt"):
-        print(figures(record, rewriting))
+    for name in ("phis.txt", "rewritings.txt"):
+        for *_, record, rewriting in lines(TOP / "vectors" / name):
+            print(figures(record, rewriting))
     for record in (to_bytes(from_text(text)) for text in ("", CALLS)):
         print(figures(record.hex(), rewrite(record).hex()))
     found = {}

@@ -1,13 +1,13 @@
 """Random accepted records, the same for the same seed.
 
-Usage: generate.py [--seed S] [--count N] [--limits | --divisions]   a record in hex per line
+Usage: generate.py [--seed S] [--count N] [--limits | --divisions | --phis]   a record in hex per line
 """
 
 import argparse
 import random
 
 from check import COUNTS, FIXED, check
-from record import (BOOL, CHAR, FLOAT, INT, POINTER, Block, Function, Instr,
+from record import (BOOL, CHAR, FLOAT, INT, PHI, POINTER, Block, Function, Instr,
                     to_bytes, unsigned)
 
 SMALL = [0, 0, 0, 1, 1, 1, 2, 2, -1]
@@ -33,9 +33,11 @@ PROFILES = [
     (1, [INT, 0xF3, 0xE3, 0xF3, 0xE3, INT], [0, 0, 13, 14, 14, 37, 38, 38, 70, 71, 20]),
     (1, [0x12, INT, FLOAT, FLOAT, 0x11, BOOL], [0, 0, 13, 14, 37, 38, 38, 70, 71, 21, 23]),
     (2, [INT, FLOAT, BOOL, FLOAT, INT], [0, 0, 0, 0, 1, 13, 20, 67, 68, 69]),
+    (2, [INT, INT, CHAR, INT, INT], [0, 0, 0, 1, 13, 13, 13, 13, PHI, PHI, PHI, PHI, 68]),
     (3, [INT, BOOL, INT, FLOAT, CHAR, 0x10], sorted(COUNTS)),
 ]
 DIVISIONS = [INT, INT, INT, BOOL, INT], [0, 0, 1, 2, 3, 4, 4, 4, 4, 4, 13, 13, 68]
+PHIS = [INT, INT, FLOAT, INT, 0x12, INT, INT], [0, 0, 0, 0, *[13] * 6, *[PHI] * 7, 68]
 
 EXCHANGED = {6: 7, 7: 6, 8: 9, 9: 8}  # the comparison with its arguments swapped
 
@@ -84,12 +86,25 @@ class Generator:
         i.kind, i.literal = fit
         return i
 
+    def phi(self, i):
+        """The instruction with a dest, names of its type and a block for each, or None."""
+        rng = self.rng
+        i.dest = self.any_name()
+        if i.dest is None:
+            return None
+        count = rng.randint(0, rng.choice([1, 2, 3, 8]))
+        i.args = [self.of_type(self.f.names[i.dest][0]) for _ in range(count)]
+        i.targets = [rng.randrange(self.nblocks) for _ in i.args]
+        return i
+
     def instr(self, code):
         """An instruction of a code, or None where the names do not allow it."""
         rng, types = self.rng, [t for t, _ in self.f.names]
         i = Instr(rng.choice(IDS) if rng.random() < 0.2 else rng.randrange(64), code)
         if code == 0:
             return self.const(i)
+        if code == PHI:
+            return self.phi(i)
         if code in FIXED:
             args, dest = FIXED[code]
             i.args = [self.of_type(t) for t in args]
@@ -127,7 +142,7 @@ class Generator:
         for another dest of the same type."""
         old = self.rng.choice(block)
         i = Instr(self.rng.randrange(64), old.code, old.dest, old.kind, old.literal,
-                  list(old.args), old.callee)
+                  list(old.args), old.callee, list(old.targets))
         if i.code in (*range(1, 10), 11, 12) and self.rng.random() < 0.5:
             i.args.reverse()
             if i.code in EXCHANGED and self.rng.random() < 0.5:
@@ -235,6 +250,13 @@ def divisions(seed, count):
         yield accepted(g.of_profile(*DIVISIONS))
 
 
+def phis(seed, count):
+    """Functions of phis, mostly."""
+    g = Generator(random.Random(seed))
+    for _ in range(count):
+        yield accepted(g.of_profile(*PHIS))
+
+
 def limits(seed):
     for f in Generator(random.Random(seed)).limits():
         yield accepted(f)
@@ -246,8 +268,9 @@ def main():
     p.add_argument("--count", type=int, default=10)
     p.add_argument("--limits", action="store_true")
     p.add_argument("--divisions", action="store_true")
+    p.add_argument("--phis", action="store_true")
     a = p.parse_args()
-    made = divisions if a.divisions else records
+    made = divisions if a.divisions else phis if a.phis else records
     for record in limits(a.seed) if a.limits else made(a.seed, a.count):
         print(record.hex())
 

@@ -1,6 +1,6 @@
 """Document 01's numbering as a program: check, then the rewriting.
 
-Follows the steps of document 01 and Points 2 and 4 of document 02, and shares no
+Follows the steps of document 01 and Points 2, 4 and 5 of document 02, and shares no
 code with the Rust. Value numbers are ints; a value is a tuple with a tag first.
 """
 
@@ -8,7 +8,7 @@ import sys
 from collections import Counter
 
 from check import check
-from record import (BOOL, FLOAT, INT, VALUE, Block, Function, Instr,
+from record import (BOOL, FLOAT, INT, PHI, VALUE, Block, Function, Instr,
                     from_bytes, signed, to_bytes, unsigned)
 
 ADD, SUB, MUL, DIV, EQ, LT, GT, LE, GE, NOT, AND, OR, ID, PTRADD = range(1, 15)
@@ -110,6 +110,14 @@ class Model:
             written = self.write(replaced, (ID, number))
         self.number[i.dest] = number
         self.out.instrs.append(written)
+        if i.code == PHI:
+            self.met(i, written, self.out.saves > saves)
+
+    def met(self, i, written, saved):
+        """Counts what a phi is an example of."""
+        what = [(saved, "phi behind a save"), (i.dest in i.args, "phi of its own dest"),
+                (written.args != i.args, "phi with an argument replaced")]
+        self.seen.update(text for shown, text in what if shown)
 
     def found(self, code, number, saves):
         """Counts a comparison that shares its number with an earlier one."""

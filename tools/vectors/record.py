@@ -9,6 +9,7 @@ A text has one line per item, indices by name and blocks by number:
     8 f = const float 7ff8000000000001   float literals are bits in hex
     9 x = call @300 a b           value code, callee, arguments
     10 br c .1 .2                 effect code, arguments, block numbers
+    11 x = phi a b .0 .1          arguments, then a block number for each
 """
 
 import struct
@@ -20,7 +21,7 @@ VALUE = {
     20: "call", 21: "fadd", 22: "fsub", 23: "fmul", 24: "fdiv", 25: "feq",
     26: "flt", 27: "fgt", 28: "fle", 29: "fge", 30: "ceq", 31: "clt",
     32: "cgt", 33: "cle", 34: "cge", 35: "char2int", 36: "int2char",
-    37: "alloc", 38: "load",
+    37: "alloc", 38: "load", 39: "phi",
 }
 EFFECT = {
     64: "jmp", 65: "br", 66: "ret", 67: "call", 68: "print", 69: "nop",
@@ -29,6 +30,7 @@ EFFECT = {
 VALUE_CODE = {text: code for code, text in VALUE.items()}
 EFFECT_CODE = {text: code for code, text in EFFECT.items()}
 CALLS = (20, 67)
+PHI = 39
 TARGETS = {64: 1, 65: 2}
 KINDS = ("int", "bool", "float", "char")
 
@@ -59,6 +61,11 @@ class Function:
     nargs: int = 0
     names: list = field(default_factory=list)  # (type, text)
     blocks: list = field(default_factory=list)
+
+
+def target_count(code, count):
+    """How many block numbers stand behind so many arguments."""
+    return count if code == PHI else TARGETS.get(code, 0)
 
 
 # Bytes
@@ -116,7 +123,7 @@ def read_instr(c):
     i.args = [c.number(2) for _ in range(count)]
     if i.code in CALLS:
         i.callee = c.number(2)
-    i.targets = [c.number(2) for _ in range(TARGETS.get(i.code, 0))]
+    i.targets = [c.number(2) for _ in range(target_count(i.code, count))]
     return i
 
 
@@ -197,8 +204,7 @@ def read_words(f, words):
         i.code, rest = EFFECT_CODE[words[1]], words[2:]
     if i.code in CALLS:
         i.callee, rest = int(rest[0][1:]), rest[1:]
-    targets = TARGETS.get(i.code, 0)
-    split = len(rest) - targets
+    split = len(rest) - target_count(i.code, len(rest) // 2)
     i.args = [index[w] for w in rest[:split]]
     i.targets = [int(w[1:]) for w in rest[split:]]
     return i

@@ -1,5 +1,5 @@
 """Chooses the records of vectors/rewritings.txt and writes them with the
-altered Rust's rewritings: 100 on which the unaltered Rust writes otherwise, 297
+altered Rust's rewritings: 100 on which the unaltered Rust writes otherwise, 317
 more random ones, then the three at the limits. Or those of
 vectors/quotients.txt, with -2^63 by -1 of known operands, on which the Rust
 panics, with the rewritings of model.py.
@@ -20,10 +20,10 @@ from collections import Counter
 from compare import build, oracle
 from generate import divisions, limits, records
 from model import Model
-from record import BOOL, FLOAT, INT, from_bytes, to_bytes
+from record import BOOL, FLOAT, INT, PHI, from_bytes, to_bytes
 
 SEED, CANDIDATES, LONGEST = 1, 20000, 180
-EXCHANGED, FEW_EXCHANGED, COUNT, FEW = 100, 3, 297, 6
+EXCHANGED, FEW_EXCHANGED, COUNT, FEW = 100, 3, 317, 6
 QUOTIENTS = 100
 
 
@@ -47,9 +47,12 @@ def shown(record):
         found.add("empty block" if not codes else "block ends with %d" % max(codes[-1], 63))
         loads = [i.args for i in block.instrs if i.code == 38]
         found.update("load twice" for a in loads if loads.count(a) > 1)
+        phis = [(i.args, i.targets) for i in block.instrs if i.code == PHI]
+        found.update("phi twice" for p in phis if phis.count(p) > 1)
+        found.update(["phi last"] * (codes[-1:] == [PHI]))
         for i in block.instrs:
             found.add("code %d" % i.code)
-            if i.code in (20, 67, 68):
+            if i.code in (20, PHI, 67, 68):
                 found.add("code %d with %d" % (i.code, len(i.args)))
             if i.kind not in (None, INT, BOOL):
                 found.add("kind %d" % i.kind)
