@@ -13,8 +13,8 @@ import re
 import struct
 
 from check import COUNTS, RESERVED, TEXT
-from record import (BOOL, CALLS, CHAR, EFFECT_CODE, FLOAT, INT, TARGETS, VALUE_CODE, Block, Function, Instr, type_byte,
-                    type_text, unsigned)
+from record import (BOOL, CALLS, CHAR, EFFECT_CODE, FLOAT, INT, PHI, TARGETS, VALUE_CODE, Block, Function, Instr,
+                    target_count, type_byte, type_text, unsigned)
 
 from reading import Fault, counted, is_scalar
 
@@ -186,13 +186,21 @@ class Parser:
             if not rest or rest[0][:2] != "@f":
                 raise Fault("@f and a number expected behind call")
             i.callee = number(rest.pop(0)[2:], WORD, "a callee")
-        split = len(rest) - TARGETS.get(i.code, 0)
+        split = len(rest) - target_count(i.code, len(rest) // 2)
         least, most = COUNTS[i.code]
-        if not least <= split <= most:
+        args, labels = rest[:split], rest[split:]
+        if not least <= split <= most or i.code == PHI and not self.one_each(args, labels):
             takes = "" if least == most else "%d to " % least
-            labels = " and %s" % counted(TARGETS[i.code], "label") if i.code in TARGETS else ""
-            raise Fault("%s takes %s%s%s" % (words[0], takes, counted(most, "argument"), labels))
-        return rest[:split], rest[split:]
+            behind = " and as many labels" if i.code == PHI else ""
+            if i.code in TARGETS:
+                behind = " and %s" % counted(TARGETS[i.code], "label")
+            raise Fault("%s takes %s%s%s" % (words[0], takes, counted(most, "argument"), behind))
+        return args, labels
+
+    @staticmethod
+    def one_each(args, labels):
+        """Whether there is a label for each argument; a name may look like a label."""
+        return len(args) == len(labels) and all(LABEL.fullmatch(label) for label in labels)
 
     def end(self):
         if self.place != "behind":

@@ -11,7 +11,7 @@ import sys
 from pathlib import Path
 
 from check import COUNTS, TEXT
-from record import BOOL, CALLS, CHAR, TARGETS, Block, Function, Instr
+from record import BOOL, CALLS, CHAR, Block, Function, Instr, target_count
 
 
 REFUSAL = re.compile(rb"refused [0-9]+ at [0-9]+\n")
@@ -133,7 +133,7 @@ class Reader:
         i.args = [self.index(names, "name") for _ in range(count)]
         if i.code in CALLS:
             i.callee = self.number(2, "callee")
-        i.targets = [self.index(blocks, "block") for _ in range(TARGETS.get(i.code, 0))]
+        i.targets = [self.index(blocks, "block") for _ in range(target_count(i.code, count))]
         return i
 
     def literal(self):
