@@ -284,9 +284,13 @@ fn print_line(
         whole(times.rust_whole),
         ratio(times.rust_whole / ours),
     ];
-    if let (Some(hand), Some(check)) = (hand, times.hand_check) {
-        let rewrite = rewriting_time(row, seconds, &needed.sizes(row, output, true), hand.rewrite);
-        cells.extend([whole(check), ratio(check / times.check), whole(rewrite), ratio(rewrite / ours)]);
+    match (hand, times.hand_check) {
+        (Some(hand), Some(check)) => {
+            let rewrite = rewriting_time(row, seconds, &needed.sizes(row, output, true), hand.rewrite);
+            cells.extend([whole(check), ratio(check / times.check), whole(rewrite), ratio(rewrite / ours)]);
+        }
+        (Some(_), None) => cells.extend(["-"; 4].map(str::to_string)),
+        _ => {}
     }
     line(&cells);
 }
@@ -318,14 +322,15 @@ pub fn run(seed: u64, seconds: u64) -> bool {
     head(hand.is_some());
     let (mut growth, mut figures) = (vec![], vec![]);
     for row in rows(seed) {
-        let needed = match needed(&row, hand) {
+        let known = hand.filter(|_| !row.phis);
+        let needed = match needed(&row, known) {
             Ok(needed) => needed,
             Err(what) => {
                 println!("{what}");
                 return false;
             }
         };
-        let times = times(&row, seconds, hand);
+        let times = times(&row, seconds, known);
         print_line(&row, seconds, &needed, Output::Ample, &times, hand);
         if row.tight {
             print_line(&row, seconds, &needed, Output::Exact, &times, hand);

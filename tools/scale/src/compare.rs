@@ -1,4 +1,4 @@
-//! The comparison at scale: one function that makes every K, small functions of
+//! The comparison at scale: two functions that make every K, small functions of
 //! every kind, random ones, and damaged copies, until a count or a time is reached.
 
 use crate::damage::damaged;
@@ -50,15 +50,40 @@ impl Panics {
     }
 }
 
+/// Small functions of one kind: those that are left, and how many are compared.
+struct Family {
+    what: &'static str,
+    left: Box<dyn Iterator<Item = Function>>,
+    compared: u64,
+    all: bool,
+}
+
+impl Family {
+    fn new(what: &'static str, left: impl Iterator<Item = Function> + 'static) -> Self {
+        Family { what, left: Box::new(left), compared: 0, all: false }
+    }
+
+    /// The next one; once there is none, all are compared.
+    fn next(&mut self) -> Option<Function> {
+        let next = self.left.next();
+        self.all = next.is_none();
+        next
+    }
+}
+
+fn families() -> Vec<Family> {
+    vec![
+        Family::new("blocks of up to three comparisons, consts, ids and prints", small::comparisons()),
+        Family::new("blocks of two consts and up to three divisions, ids and prints", small::divisions()),
+        Family::new("pairs of blocks of up to three phis, consts, ids and prints", small::phis()),
+        Family::new("blocks of up to three instructions over two names", small::of_two_names()),
+    ]
+}
+
 #[derive(Default)]
 struct Tally {
     every_k: u64,
-    comparisons: u64,
-    all_comparisons: bool,
-    divisions: u64,
-    all_divisions: bool,
-    small: u64,
-    all_small: bool,
+    small: Vec<Family>,
     random: u64,
     /// Damaged copies that are accepted all the same.
     still_accepted: u64,
@@ -72,7 +97,8 @@ struct Tally {
 
 impl Tally {
     fn accepted(&self) -> u64 {
-        self.every_k + self.comparisons + self.divisions + self.small + self.random + self.still_accepted
+        let small: u64 = self.small.iter().map(|family| family.compared).sum();
+        self.every_k + small + self.random + self.still_accepted
     }
 
     fn sizes(&mut self, f: &Function, record: usize) {
@@ -133,14 +159,23 @@ impl Compare {
         }
         same
     }
+
+    /// The next small function, of the first family of which not all are compared.
+    fn small(&mut self, encoded: &mut Encoded) {
+        for n in 0..self.tally.small.len() {
+            if let Some(f) = self.tally.small[n].next() {
+                self.tally.small[n].compared += u64::from(self.function(&f, encoded));
+                return;
+            }
+        }
+    }
 }
 
 /// Compares until the count or the time is reached; whether nothing differs.
 pub fn run(options: &Options) -> bool {
     let start = Instant::now();
-    let (mut comparisons, mut divisions, mut small) = (small::comparisons(), small::divisions(), small::of_two_names());
     let mut generator = Generator::new(options.seed);
-    let tally = Tally { codes: vec![0; 72], ..Tally::default() };
+    let tally = Tally { codes: vec![0; 72], small: families(), ..Tally::default() };
     let mut c = Compare { tally, lent: Lent::new(), smallest: None };
     let mut encoded = Encoded::default();
     let mut said = Duration::ZERO;
@@ -148,20 +183,12 @@ pub fn run(options: &Options) -> bool {
         Some(count) => tally.accepted() >= count,
         None => start.elapsed() >= Duration::from_secs(options.seconds),
     };
-    c.tally.every_k = u64::from(c.function(&rows::saves(64), &mut encoded));
+    for f in [rows::saves(64), rows::phis_of_none(64)] {
+        c.tally.every_k += u64::from(c.function(&f, &mut encoded));
+    }
     while !done(&c.tally) {
         for _ in 0..SMALL {
-            if let Some(f) = comparisons.next() {
-                c.tally.comparisons += u64::from(c.function(&f, &mut encoded));
-            } else if let Some(f) = divisions.next() {
-                c.tally.all_comparisons = true;
-                c.tally.divisions += u64::from(c.function(&f, &mut encoded));
-            } else if let Some(f) = small.next() {
-                c.tally.all_divisions = true;
-                c.tally.small += u64::from(c.function(&f, &mut encoded));
-            } else {
-                c.tally.all_small = true;
-            }
+            c.small(&mut encoded);
         }
         let f = generator.function();
         c.tally.random += u64::from(c.function(&f, &mut encoded));
@@ -187,13 +214,12 @@ fn progress(t: &Tally, time: Duration) {
 
 fn summary(c: &mut Compare, options: &Options, time: Duration) {
     let (t, l) = (&c.tally, &c.tally.largest);
-    let all = |are: bool| if are { "all of them" } else { "not all of them" };
     println!("seed {}, {:.1} s", options.seed, time.as_secs_f64());
     println!("{} functions rewritten to the bytes of the second reading, and of the altered Rust where it gives any:", t.accepted());
     println!("  {} of 16384 saves, so with each K from 0 to 16383", t.every_k);
-    println!("  {} blocks of up to three comparisons, consts, ids and prints ({})", t.comparisons, all(t.all_comparisons));
-    println!("  {} blocks of two consts and up to three divisions, ids and prints ({})", t.divisions, all(t.all_divisions));
-    println!("  {} blocks of up to three instructions over two names ({})", t.small, all(t.all_small));
+    for family in &t.small {
+        println!("  {} {} ({}all of them)", family.compared, family.what, if family.all { "" } else { "not " });
+    }
     println!("  {} random functions, {} damaged copies that are accepted", t.random, t.still_accepted);
     let n = &t.panics;
     println!("the Rust panics on a division in {} of these, which are the same up to it:", n.by_zero + n.of_least);
@@ -201,7 +227,8 @@ fn summary(c: &mut Compare, options: &Options, time: Duration) {
     println!("  {} of -2^63 by -1, which is a const, with {} instructions behind:", n.of_least, n.behind_least);
     println!("  what is behind is by the second reading, and by the Rust on the function with the const in place of the division");
     println!("outputs one byte short, exact, longer and of eight times the input, between guard bytes; two name texts each");
-    let (p, u) = (&c.lent.places, &c.lent.unaltered);
+    let (p, u, f) = (&c.lent.places, &c.lent.unaltered, &c.lent.phis);
+    println!("{} functions with {} phis, {} with an argument replaced, {} behind a save", f.functions, f.phis, f.replaced, f.saved);
     println!("the unaltered Rust: {} functions without gt and ge, on which it answers the same;", u.without);
     println!("  {} with gt or ge, {} of which it writes otherwise, {} with more comparisons", u.with, u.otherwise, u.shared);
     println!("figures as in the rewriting: {} with as many places as blocks, {} with more;", p.exact, p.more);

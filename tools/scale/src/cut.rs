@@ -23,7 +23,8 @@ fn end_of(bytes: &[u8], start: usize) -> usize {
     if code == 0 {
         return at + 9;
     }
-    at + 1 + 2 * (usize::from(bytes[at]) + usize::from(has_callee(code)) + targets(code))
+    let args = usize::from(bytes[at]);
+    at + 1 + 2 * (args + usize::from(has_callee(code)) + targets(code, args))
 }
 
 /// Where the names of a record end.

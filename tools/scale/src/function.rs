@@ -6,9 +6,11 @@ pub const FLOAT: u8 = 2;
 pub const CHAR: u8 = 3;
 pub const POINTER: u8 = 0x10;
 
-pub const CODES: [u8; 42] = [
+pub const PHI: u8 = 39;
+
+pub const CODES: [u8; 43] = [
     0, 1, 2, 3, 4, 5, 6, 7, 8, 9, 10, 11, 12, 13, 14, 20, 21, 22, 23, 24, 25, 26, 27, 28, 29, 30,
-    31, 32, 33, 34, 35, 36, 37, 38, 64, 65, 66, 67, 68, 69, 70, 71,
+    31, 32, 33, 34, 35, 36, 37, 38, PHI, 64, 65, 66, 67, 68, 69, 70, 71,
 ];
 
 /// An instruction; parts that its code does not have are 0 and are not written.
@@ -21,7 +23,7 @@ pub struct Instr {
     pub literal: u64,
     pub args: Vec<u16>,
     pub callee: u16,
-    pub blocks: [u16; 2],
+    pub blocks: [u16; 8],
 }
 
 #[derive(Clone, Default)]
@@ -78,9 +80,10 @@ pub fn has_callee(code: u8) -> bool {
     code == 20 || code == 67
 }
 
-/// How many block numbers follow.
-pub fn targets(code: u8) -> usize {
+/// How many block numbers follow so many arguments.
+pub fn targets(code: u8, args: usize) -> usize {
     match code {
+        PHI => args,
         64 => 1,
         65 => 2,
         _ => 0,
@@ -111,7 +114,7 @@ impl Encoded {
         if has_callee(i.code) {
             self.put(Kind::Callee, 2, u64::from(i.callee));
         }
-        for target in &i.blocks[..targets(i.code)] {
+        for target in &i.blocks[..targets(i.code, i.args.len())] {
             self.put(Kind::Target, 2, u64::from(*target));
         }
     }
@@ -178,7 +181,7 @@ impl<'a> Fields<'a> {
         if has_callee(i.code) {
             i.callee = self.number(2) as u16;
         }
-        for target in &mut i.blocks[..targets(i.code)] {
+        for target in &mut i.blocks[..targets(i.code, i.args.len())] {
             *target = self.number(2) as u16;
         }
         i

@@ -1,7 +1,8 @@
 //! Random accepted functions: all codes, all sizes up to the limits. Names and
 //! literals are few, so that values meet again and constants fold.
 
-use crate::function::{Function, Instr, BOOL, CHAR, FLOAT, INT, POINTER};
+use crate::function::{targets, Function, Instr, BOOL, CHAR, FLOAT, INT, PHI, POINTER};
+use crate::profiles::{Profile, ALL, COMPARISONS, DIVISIONS, PHIS, PROFILES};
 use crate::rng::Rng;
 use crate::second;
 use std::collections::HashSet;
@@ -26,74 +27,8 @@ const ODD_TEXTS: [&[u8]; 10] = [
 const FIRST: &[u8] = b"abcxyzABCXYZ_.";
 const LATER: &[u8] = b"abcxyzABCXYZ_.0123456789lvn";
 
-/// Types that a function's names are drawn from, and the codes it prefers.
-struct Profile {
-    weight: usize,
-    types: &'static [u8],
-    codes: &'static [u8],
-}
-
 /// The ints that most literals are drawn from in a function of divisions.
 const EDGES: [i64; 9] = [i64::MIN, i64::MIN, i64::MIN, -1, -1, -1, 1, 0, i64::MAX];
-
-const PROFILES: [Profile; 8] = [
-    Profile {
-        weight: 5,
-        types: &[INT, INT, BOOL, INT, INT],
-        codes: &[0, 0, 0, 0, 1, 1, 1, 2, 3, 3, 3, 3, 4, 4, 5, 6, 7, 8, 9, 13, 68],
-    },
-    Profile {
-        weight: 3,
-        types: &[BOOL, BOOL, INT, BOOL, INT],
-        codes: &[0, 0, 0, 5, 6, 10, 11, 11, 12, 12, 13, 68],
-    },
-    Profile {
-        weight: 2,
-        types: &[FLOAT, BOOL, FLOAT, CHAR, INT, CHAR],
-        codes: &[0, 0, 20, 21, 22, 23, 24, 25, 26, 27, 28, 29, 30, 31, 32, 33, 34, 35, 36, 13, 68],
-    },
-    Profile {
-        weight: 3,
-        types: &[0x10, INT, 0x10, INT, 0x20, 0x20],
-        codes: &[0, 0, 0, 13, 14, 14, 14, 37, 38, 38, 70, 71],
-    },
-    Profile {
-        weight: 1,
-        types: &[INT, 0xF3, 0xE3, 0xF3, 0xE3, INT],
-        codes: &[0, 0, 13, 14, 14, 37, 38, 38, 70, 71, 20],
-    },
-    Profile {
-        weight: 1,
-        types: &[0x12, INT, FLOAT, FLOAT, 0x11, BOOL],
-        codes: &[0, 0, 13, 14, 37, 38, 38, 70, 71, 21, 23],
-    },
-    Profile {
-        weight: 2,
-        types: &[INT, FLOAT, BOOL, FLOAT, INT],
-        codes: &[0, 0, 0, 0, 1, 13, 20, 67, 68, 69],
-    },
-    Profile { weight: 3, types: &[INT, BOOL, INT, FLOAT, CHAR, 0x10], codes: &EVERY },
-];
-
-/// Comparisons of few ints, so that gt and lt, and ge and le, meet: one random function in ten, and none of a given size.
-const COMPARISONS: Profile = Profile {
-    weight: 0,
-    types: &[INT, BOOL, INT, BOOL, BOOL],
-    codes: &[0, 1, 6, 6, 7, 7, 8, 8, 9, 9, 13, 68],
-};
-
-/// Divisions of few ints, with ids and sums of them: one random function in ten, and none of a given size.
-const DIVISIONS: Profile = Profile {
-    weight: 0,
-    types: &[INT, INT, INT, BOOL, INT],
-    codes: &[0, 0, 1, 2, 3, 4, 4, 4, 4, 4, 13, 13, 68],
-};
-
-/// Every code that may stand before the last place.
-const EVERY: [u8; 39] = [
-    0, 1, 2, 3, 4, 5, 6, 7, 8, 9, 10, 11, 12, 13, 14, 20, 21, 22, 23, 24, 25, 26, 27, 28, 29, 30,
-    31, 32, 33, 34, 35, 36, 37, 38, 67, 68, 69, 70, 71,
-];
 
 /// How large a function is to be.
 pub struct Size {
@@ -270,6 +205,13 @@ impl Generator {
                 (i.kind, i.literal) = self.literal(self.type_of(i.dest))?;
             }
             64 | 69 => {}
+            PHI => {
+                i.dest = self.name(false, |_| true)?;
+                let most = self.rng.pick(&[1, 2, 3, 8]);
+                for _ in 0..self.rng.within(0, most) {
+                    i.args.push(self.arg(self.type_of(i.dest))?);
+                }
+            }
             20 | 66 | 67 | 68 => {
                 let most = if code == 66 { 1 } else { self.rng.pick(&[1, 2, 3, 8]) };
                 for _ in 0..self.rng.within(0, most) {
@@ -280,8 +222,10 @@ impl Generator {
             }
             _ => (i.args, i.dest) = self.operands(code)?,
         }
-        let blocks = self.f.blocks.len();
-        i.blocks = [self.rng.below(blocks) as u16, self.rng.below(blocks) as u16];
+        // At least two are drawn, needed or not, so that the timed functions of a seed stay what they were.
+        for target in &mut i.blocks[..targets(code, i.args.len()).max(2)] {
+            *target = self.rng.below(self.f.blocks.len()) as u16;
+        }
         Some(i)
     }
 
@@ -368,6 +312,11 @@ impl Generator {
                 self.small = SMALL;
                 f
             }
+            2 => {
+                let (names, blocks) = (self.rng.within(1, 6), self.rng.within(1, 8));
+                self.of_profile(&Size { names, args: size.args.min(names), blocks, ..size }, &PHIS)
+            }
+            3 => self.of_profile(&size, &ALL),
             _ => self.of_size(&size),
         }
     }

@@ -13,6 +13,8 @@ mod guarded;
 mod handport;
 mod number;
 mod one;
+mod phis;
+mod profiles;
 mod rng;
 mod rows;
 mod second;

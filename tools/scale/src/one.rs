@@ -3,6 +3,7 @@
 
 use crate::figures::Places;
 use crate::guarded::Guarded;
+use crate::phis::Phis;
 use crate::unaltered::Unaltered;
 use crate::{cut, number, second};
 use lvn::{Refused, Unwritten, Written};
@@ -30,11 +31,17 @@ pub struct Lent {
     output: Guarded<u8>,
     pub places: Places,
     pub unaltered: Unaltered,
+    pub phis: Phis,
 }
 
 impl Lent {
     pub fn new() -> Self {
-        Lent { output: Guarded::new(0xA5), places: Places::new(), unaltered: Unaltered::default() }
+        Lent {
+            output: Guarded::new(0xA5),
+            places: Places::new(),
+            unaltered: Unaltered::default(),
+            phis: Phis::default(),
+        }
     }
 }
 
@@ -55,20 +62,22 @@ pub fn compare(bytes: &[u8], lent: &mut Lent) -> Result<Same, String> {
     }
     let answer = oracle::rewrite(Rust::Altered, bytes);
     lent.unaltered.ask(bytes, &answer)?;
-    accepted(bytes, answer, lent)
+    let second = number::rewriting(bytes);
+    let same = accepted(bytes, &second, answer, lent)?;
+    lent.phis.count(bytes, &second);
+    Ok(same)
 }
 
 /// An accepted record, by the second reading and by the altered Rust's answer.
-fn accepted(bytes: &[u8], answer: Answer, lent: &mut Lent) -> Result<Same, String> {
-    let second = number::rewriting(bytes);
-    let saves = rewritten(bytes, &second, lent)?;
-    names(bytes, &second)?;
+fn accepted(bytes: &[u8], second: &[u8], answer: Answer, lent: &mut Lent) -> Result<Same, String> {
+    let saves = rewritten(bytes, second, lent)?;
+    names(bytes, second)?;
     match answer {
         Answer::Rewriting(rewriting) if rewriting == second => Ok(Same::Rewritten(second.len(), saves)),
         Answer::Rewriting(rewriting) => {
-            Err(format!("written\n{}\nby the Rust\n{}", hex(&second), hex(&rewriting)))
+            Err(format!("written\n{}\nby the Rust\n{}", hex(second), hex(&rewriting)))
         }
-        Answer::Panic => division(bytes, &second, lent).map(Same::Panics),
+        Answer::Panic => division(bytes, second, lent).map(Same::Panics),
         Answer::Bad => Err("the oracle cannot read the record or write its rewriting".to_string()),
     }
 }
@@ -161,7 +170,7 @@ fn division(bytes: &[u8], whole: &[u8], lent: &mut Lent) -> Result<Division, Str
     let at = places.partition_point(|p| rust(&cut::up_to(bytes, *p, true)) != Answer::Panic);
     let first = places[at];
     let before = cut::up_to(bytes, first, false);
-    accepted(&before, rust(&before), lent)?;
+    accepted(&before, &number::rewriting(&before), rust(&before), lent)?;
     let with = cut::up_to(bytes, first, true);
     let (rewriting, _) = lvn::rewriting(&with).map_err(|r| format!("with the division: {r}"))?;
     let (read, end) = (&bytes[first.start..first.end], rewriting.len() - 4 * first.behind);
@@ -176,7 +185,7 @@ fn division(bytes: &[u8], whole: &[u8], lent: &mut Lent) -> Result<Division, Str
         if number::rewriting(&instead) != whole {
             return Err("with the const in place of the division another rewriting".to_string());
         }
-        accepted(&instead, answer, lent)?;
+        accepted(&instead, whole, answer, lent)?;
     }
     Ok(Division { by_zero, behind: places.len() - at - 1 })
 }

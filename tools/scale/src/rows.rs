@@ -1,6 +1,6 @@
 //! The records that are timed: worked ones, random ones, ones that do little and ones made to be slow.
 
-use crate::function::{encode, Function, Instr, INT};
+use crate::function::{encode, Function, Instr, INT, PHI};
 use crate::generate::{Generator, Size};
 use crate::rng::Rng;
 use oracle::{Answer, Rust};
@@ -10,6 +10,8 @@ pub struct Row {
     pub records: Vec<Vec<u8>>,
     /// Instructions of all records.
     pub instructions: usize,
+    /// Whether there is a phi, which the hand port does not know.
+    pub phis: bool,
     /// Whether outputs that have just the bytes needed, and one too few, are timed too.
     pub tight: bool,
 }
@@ -20,6 +22,7 @@ impl Row {
             name: name.to_string(),
             records: functions.iter().map(encode).collect(),
             instructions: functions.iter().flat_map(|f| &f.blocks).map(Vec::len).sum(),
+            phis: functions.iter().flat_map(|f| &f.blocks).flatten().any(|i| i.code == PHI),
             tight: false,
         }
     }
@@ -53,6 +56,26 @@ pub fn saves(blocks: usize) -> Function {
     let names = ["a", "x"].map(|text| (INT, text.as_bytes().to_vec())).to_vec();
     let block: Vec<Instr> = (0..256).map(|n| add(n, 1, [1, 0])).collect();
     Function { args: 2, names, blocks: vec![block; blocks] }
+}
+
+/// Blocks of 256 phis of none into one argument, so that each makes a save: the rewriting has nearly eight bytes for each of
+/// the record.
+pub fn phis_of_none(blocks: usize) -> Function {
+    let phi = |n| Instr { id: n, code: PHI, ..Instr::default() };
+    Function { args: 1, names: names(1, 32), blocks: vec![(0..256).map(phi).collect(); blocks] }
+}
+
+/// 16 blocks of 256 phis of eight of the 16 arguments, each into an argument.
+fn phis_of_eight() -> Function {
+    let phi = |n: u16| Instr {
+        id: n.into(),
+        code: PHI,
+        dest: n % 16,
+        args: (n..n + 8).map(|k| k % 16).collect(),
+        blocks: [0, 1, 2, 3, 4, 5, 6, 7],
+        ..Instr::default()
+    };
+    Function { args: 16, names: names(16, 8), blocks: vec![(0..256).map(phi).collect(); 16] }
 }
 
 /// Blocks of sums, differences and products of random names, which have so many bytes of text.
@@ -117,6 +140,8 @@ pub fn rows(seed: u64) -> Vec<Row> {
         Row::new("smallest", &[Function::default()]),
         Row::new("values found late", &[found_late()]),
         Row::new("256 names, one mark", &[one_mark()]),
+        Row::new("4096 phis of 8", &[phis_of_eight()]),
+        Row::new("4096 phis of none, saved", &[phis_of_none(16)]),
     ];
     // Over arguments alone, so that nearly every instruction makes a save, whatever n is.
     for n in [16, 32, 64, 128, 256] {

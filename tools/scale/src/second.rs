@@ -1,6 +1,6 @@
-//! A second reading of document 01: check and name text, written from its
-//! words for this comparison, with nothing taken from the code it is compared
-//! with.
+//! A second reading of document 01 and of Point 5 of document 02: check and name
+//! text, written from their words for this comparison, with nothing taken from
+//! the code it is compared with.
 
 use std::collections::HashSet;
 
@@ -10,7 +10,7 @@ pub type Fault = (u8, usize);
 /// What is known of a code: the least and the greatest argument count, and the
 /// types of its arguments and of its dest. In the types: i int, b bool, f
 /// float, c char; p a pointer, t the type that p points to, s the same type as
-/// the first; * any type.
+/// the first; * any type; = one type for all, dest's.
 fn shape(code: u8) -> Option<(usize, usize, &'static str)> {
     Some(match code {
         1..=4 => (2, 2, "ii>i"),
@@ -27,6 +27,7 @@ fn shape(code: u8) -> Option<(usize, usize, &'static str)> {
         36 => (1, 1, "i>c"),
         37 => (1, 1, "i>p"),
         38 => (1, 1, "p>t"),
+        39 => (0, 8, "="),
         64 => (0, 0, ""),
         65 => (1, 1, "b"),
         66 => (0, 1, "*"),
@@ -40,8 +41,10 @@ fn shape(code: u8) -> Option<(usize, usize, &'static str)> {
 
 /// Whether the types, dest's last, are those of a shape.
 fn fits(types: &[u8], wanted: &str) -> bool {
-    if wanted == "*" {
-        return true;
+    match wanted {
+        "*" => return true,
+        "=" => return types.iter().all(|t| types.last() == Some(t)),
+        _ => {}
     }
     let letters = wanted.bytes().filter(|l| *l != b'>');
     letters.zip(types).all(|(letter, is)| match letter {
@@ -131,7 +134,13 @@ fn instruction(r: &mut Input, names: &[u8], blocks: u64, last: bool) -> Result<T
     if code == 20 || code == 67 {
         r.number(2, 0, |_| true)?;
     }
-    for _ in 0..[1, 2].get(code.wrapping_sub(64) as usize).copied().unwrap_or(0) {
+    let targets = match code {
+        39 => count,
+        64 => 1,
+        65 => 2,
+        _ => 0,
+    };
+    for _ in 0..targets {
         r.number(2, 6, |b| b < blocks)?;
     }
     types.extend(dest);

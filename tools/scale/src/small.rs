@@ -1,8 +1,9 @@
 //! Every function of one block of up to three instructions: over two names, for
 //! pairs of types, numbers of arguments and small literals; of comparisons; and
-//! of divisions, behind two constants.
+//! of divisions, behind two constants. Every function of two blocks of up to three
+//! phis and others in all.
 
-use crate::function::{Function, Instr, BOOL, CHAR, CODES, FLOAT, INT, POINTER};
+use crate::function::{Function, Instr, BOOL, CHAR, CODES, FLOAT, INT, PHI, POINTER};
 use crate::second;
 
 const PAIRS: [[u8; 2]; 11] = [
@@ -52,10 +53,11 @@ fn int(dest: u16, value: i64) -> Instr {
     Instr { literal: value as u64, ..instr(0, dest, &[]) }
 }
 
-/// Every instruction over two names of these types that may stand alone in a block.
+/// Every instruction over two names of these types that may stand alone in a block, but for phi, which has functions of
+/// its own.
 fn instructions(types: [u8; 2]) -> Vec<Instr> {
     let mut all = vec![];
-    for code in CODES {
+    for code in CODES.into_iter().filter(|code| *code != PHI) {
         for dest in [0, 1] {
             for (kind, literal) in literals(types[usize::from(dest)]) {
                 if code == 0 {
@@ -163,4 +165,23 @@ pub fn divisions() -> impl Iterator<Item = Function> {
     let pairs = edges.into_iter().flat_map(move |a| edges.map(|b| (a, b))).chain([(i64::MIN, 0)]);
     let consts = pairs.map(|(a, b)| vec![int(0, a), int(1, b)]);
     consts.flat_map(move |first| Blocks { first, ..Blocks::new(names.to_vec(), choices.clone(), 0) })
+}
+
+/// A function of one block with that block cut in two, at each place.
+fn in_two_blocks(f: Function) -> impl Iterator<Item = Function> {
+    (0..=f.blocks[0].len()).map(move |at| {
+        let (first, rest) = f.blocks[0].split_at(at);
+        Function { blocks: vec![first.to_vec(), rest.to_vec()], ..f.clone() }
+    })
+}
+
+/// Those over the ints x and y, in two blocks: phis of none, of one and of two, from block 0 and from block 1; 1 into each,
+/// each by id into the other, both printed.
+pub fn phis() -> impl Iterator<Item = Function> {
+    let mut choices = vec![instr(13, 0, &[1]), instr(13, 1, &[0]), int(0, 1), int(1, 1), instr(68, 0, &[0, 1])];
+    for dest in [0, 1] {
+        let phi = |args: Vec<u16>| Instr { blocks: [0, 1, 0, 0, 0, 0, 0, 0], ..instr(PHI, dest, &args) };
+        choices.extend(arguments().into_iter().map(phi));
+    }
+    Blocks::new(two_names([INT, INT]), choices, 2).flat_map(in_two_blocks)
 }
