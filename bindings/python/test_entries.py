@@ -23,12 +23,12 @@ def lines(path):
 
 
 def accepted():
-    """Records with their rewritings: the examples, as files, and those by the Rust."""
+    """Records with their rewritings: the examples, as files, those of phis and those by the Rust."""
     for label, record, rewriting, *rest in lines("vectors/worked.txt"):
         if not rest:
             yield (TOP / "examples" / (label.lower() + ".rec")).read_bytes(), bytes.fromhex(rewriting)
-    for pair in lines("vectors/rewritings.txt"):
-        yield tuple(map(bytes.fromhex, pair))
+    for *_, record, rewriting in lines("vectors/phis.txt") + lines("vectors/rewritings.txt"):
+        yield bytes.fromhex(record), bytes.fromhex(rewriting)
 
 
 def refused():
@@ -79,7 +79,7 @@ class Answers(unittest.TestCase):
             self.assertEqual(lvn.rewrite(record), (rewriting, saves))
             self.assertEqual(lvn.figures(record), (size, saves, blocks))
             count += 1
-        self.assertEqual(count, 416)
+        self.assertEqual(count, 449)
 
     def test_refused(self):
         for record, answer in refused():
