@@ -8,7 +8,7 @@
  *     2  version
  *     3  a limit, a count, a type, saves that are not zero, a literal's kind or a literal that is not of its kind
  *     4  a name's text is malformed, reserved or used before
- *     5  unknown code
+ *     5  unknown code: 15 to 19, 40 to 63, 72 and on
  *     6  a name or block number that is not in the record
  *     7  an instruction's types
  *     8  jmp, br or ret before the last place of its block
@@ -43,7 +43,8 @@ typedef struct {
 } lvn_rewritten;
 
 /* Writes the rewriting of a record to the start of output: 0, a refusal of lvn_check, or 9.
- * A refusal leaves output as it was, and success leaves the bytes beyond the rewriting as they were. */
+ * A refusal leaves output as it was, and success leaves the bytes beyond the rewriting as they were. Eight bytes of output for each byte of
+ * input are always enough. */
 uint8_t lvn_rewrite(const uint8_t *input, size_t input_length, uint8_t *output, size_t output_length, lvn_rewritten *answer);
 
 /* The figures of a rewriting, worked out from the record without an output: 0, a refusal of lvn_check, or 12.
