@@ -1,12 +1,12 @@
 -- Document 02, Point 5 by example, a block and what is written of it: a phi is "a new number each time with arguments replaced", its block
 -- numbers stay, and it may owe a save. So 62 bytes can stand in the rewriting for its 8.
-use Prim.Native.Nat.{ℕ, _+_}
+use Prim.Native.Nat.{ℕ}
 use mathlib.Core.Path.{_≡_, refl}
 use mathlib.Core.List.{List, [], _∷_, _++_, map}
 use mathlib.Core.Option.{some}
 use lib.ListN.{length, replicate}
 use Rattle.record.specs.Record.{nm, Instr, Record, type-in}
-use Rattle.record.specs.Short.{gives, asks, joins, set, does, goes}
+use Rattle.record.specs.Short.{gives, joins, set, does, goes}
 use Rattle.record.specs.Write.{instr-bytes, name-bytes}
 use Rattle.numbering.specs.State.{vn, start}
 use Rattle.numbering.specs.Number.{block-lvn, lvn}

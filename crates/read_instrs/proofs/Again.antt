@@ -5,7 +5,6 @@ use mathlib.Core.List.{List, [], map}
 use mathlib.Core.Bool.{Bool, true, false, not, cond}
 use native.Mathlib.Omega.{arith}
 use lib.ListN.{length, take}
-use Rattle.record.specs.declared.NameIx.{NameIx}
 use Rattle.record.specs.declared.Shape.{Shape}
 use Rattle.record.specs.declared.Instruction.{Instruction}
 use Rattle.record.specs.Record.{nm, Lit, no-lit, Instr}

@@ -2,16 +2,14 @@
 // nothing is asked of the bytes.
 use record::Shape;
 ghost use mathlib.Core.Path.{_≡_};
-ghost use mathlib.Core.Bool.{cond};
 ghost use Prim.Native.Nat.{_+_, _*_, _<_, _≤_};
 ghost use lib.ListN.{set};
 ghost use lib.Seq.{sets};
 ghost use Rattle.record.specs.Record.{id-bytes};
-ghost use Rattle.record.specs.Reader.{num-at};
-ghost use Rattle.record.specs.Decode.{behind, two-on, operands-end, instr-end, block-end, name-end, names-count, id-width};
+ghost use Rattle.record.specs.Decode.{behind, operands-end, instr-end, block-end, name-end, names-count, id-width};
 ghost use Rattle.record.specs.Sizes.{places-end};
 ghost use Rattle.read_fields.specs.Places.{places};
-ghost use Rattle.read_layout.specs.Bounds.{widest-id, row-reach, operands-reach, instr-reach, block-reach, name-reach};
+ghost use Rattle.read_layout.specs.Bounds.{widest-id, operands-reach, instr-reach, block-reach, name-reach};
 ghost use Rattle.read_layout.specs.Layout.{types-from, places-from, blocks-from, layout-of, Bounded};
 
 // What the head of a record says: the bytes of an id, how many arguments, names and blocks there are, and where the names end.

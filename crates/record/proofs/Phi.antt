@@ -1,8 +1,8 @@
 -- Document 02, Point 5: what the tests and the rule of phi come to.
-use Prim.Native.Nat.{ℕ, _<_, _≤_}
+use Prim.Native.Nat.{ℕ, _<_}
 use mathlib.Core.Path.{_≡_, refl, sym, ap, _∙_, subst}
 use mathlib.Core.List.{List, [], _∷_, map}
-use mathlib.Core.Bool.{true, _&&_}
+use mathlib.Core.Bool.{true}
 use lib.ListN.{length}
 use lib.Dec.{eqb}
 use borrow.Author.Tests.{eqb-true}
@@ -12,7 +12,7 @@ use Rattle.record.specs.declared.Test.the-variants.{Passes}
 use Rattle.record.specs.Record.{Instr}
 use Rattle.record.specs.Shape.{phi, row-of, shape-of}
 use Rattle.record.specs.Tests.{below}
-use Rattle.record.specs.Typing.{Rule, free, joins, rules, each-is, obeys, well-typed}
+use Rattle.record.specs.Typing.{free, rules, each-is, obeys, well-typed}
 use Rattle.record.specs.Good.{Each, OperandsOk, InstrOk, PhiOk}
 use Rattle.record.proofs.Tests.{and-left, and-right, below-lt, count-most}
 

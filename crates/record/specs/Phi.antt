@@ -1,10 +1,8 @@
 -- Point 5: "Code 39 becomes a value code: dest, argument count 0 to 8, arguments, then one block number per argument. Arguments have dest's
 -- type." Records with phi: cut at each byte, wrong from each field on, with faults side by side, and every choice of types.
-use Prim.Native.Nat.{ℕ}
 use Prim.Native.String.{String}
 use mathlib.Core.Path.{_≡_, refl}
 use mathlib.Core.List.{List, [], _∷_, _++_, map, flatMap}
-use Rattle.record.specs.Record.{nm, Instr}
 use Rattle.record.specs.Short.{joins}
 use Rattle.record.specs.Write.{instr-bytes}
 use Rattle.record.specs.Answer.{Returned}

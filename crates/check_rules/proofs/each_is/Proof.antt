@@ -1,6 +1,6 @@
 -- `check_rules::each_is` meets its contract. The loop's invariant: those left decide as all of them do, and end where all of them end.
 use Prim.Native.Nat.{_+_, _*_}
-use mathlib.Core.Path.{_≡_, refl, sym, _∙_}
+use mathlib.Core.Path.{_≡_, refl, _∙_}
 use mathlib.Core.List.{map}
 use native.Mathlib.Omega.{arith}
 use borrow.Author.Needs.{needs}
