@@ -30,5 +30,6 @@ pub mod Computed
 pub mod NoProgress
 pub mod Division
 pub mod Joining
+pub mod Continued
 pub mod Theorems
 pub mod Contract

@@ -70,11 +70,11 @@ text-decodes :
     Decodes (text n test) s at (take n (drop at s)) (at + n)
 text-decodes n test s at = record { told = λ y q e. let t = text-tells n test s at y q e in (t .value, t .ends) }
 
-give-decodes : {A : Type 0} {x : A} {s : List ℕ} {at : ℕ} → Decodes (give x) s at x at
+pub give-decodes : {A : Type 0} {x : A} {s : List ℕ} {at : ℕ} → Decodes (give x) s at x at
 unfolding give
 give-decodes = record { told = λ y q e. (cc, cc) }
 
-bind-decodes :
+pub bind-decodes :
     {A B : Type 0} {r : Reader A} (f : A → Reader B) {s : List ℕ} {at : ℕ} {x : A} {p : ℕ} {y : B} {q : ℕ} →
     Decodes r s at x p →
     Decodes (f x) s p y q →
@@ -103,7 +103,7 @@ unfolding if-there
 there-decodes true d h = h
 there-decodes false d h = give-decodes
 
-times-decode :
+pub times-decode :
     {A : Type 0} (r : ℕ → Reader A) (s : List ℕ) (one : ℕ → A) (next : ℕ → ℕ) →
     ((left at : ℕ) → Decodes (r left) s at (one at) (next at)) →
     (n at : ℕ) →
@@ -210,7 +210,7 @@ pub length-decodes : (s : List ℕ) → Decodes length-field s 0 (num-at s 0 4) 
 unfolding length-field
 length-decodes s = record { told = field-decodes 4 (length-test (length s - 4)) s 0 .told }
 
-end-decodes : (s : List ℕ) (at : ℕ) → Decodes end s at tt at
+pub end-decodes : (s : List ℕ) (at : ℕ) → Decodes end s at tt at
 unfolding end
 end-decodes s at = record { told = λ y q e. go (ltb at (length s)) y q e }
   where
