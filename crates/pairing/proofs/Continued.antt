@@ -1,183 +1,111 @@
--- The engine's final store reads as a store of the same record, so that a run can be continued from it: a step keeps a typed store typed.
--- Rests on the types of an accepted function, and on the run by steps.
-use Prim.Native.Nat.{ℕ, zero, suc, _<_}
+-- The engine's final store reads as a store of the same record, so that a run can be continued from it: a step keeps a typed store typed,
+-- and sets no name that the record does not have. Rests on the types of an accepted function, and on the run by steps.
+use Prim.Native.Nat.{ℕ, zero, suc, _≤_, _<_}
 use mathlib.Core.Path.{_≡_, refl, sym, ap, _∙_, subst}
-use mathlib.Core.Bool.{Bool, true, false}
+use mathlib.Core.Bool.{Bool, true}
 use mathlib.Core.Option.{Option, none, some}
 use mathlib.Core.List.{List, [], _∷_, _++_, map}
 use native.Mathlib.Omega.{arith}
-use lib.ListN.{length, getD, drop}
+use native.Mathlib.Decide.{decLt}
+use lib.ListN.{length, getD}
 use lib.Dec.{T}
 use lib.Ieee.Bits.{is-true}
+use Rattle.arith.proofs.Clash.{clash}
 use Rattle.arith.specs.Map.{pick, upd}
 use Rattle.arith.specs.Value.{Val, has-type, HasType}
-use Rattle.arith.specs.Operation.{Result, ok, stops, unset, eval, Expr}
 use Rattle.record.specs.declared.NameIx.{NameIx}
 use Rattle.record.specs.declared.Limits.{Limits}
 use Rattle.record.specs.Record.{NameIx-discrete, Bytes, Instr, Block, Name, Function, function, plain, names-of, type-in, limits}
-use Rattle.record.specs.Form.{Form, pure, new, effect, return, nop, jump, branch, form}
+use Rattle.record.specs.Form.{Form}
 use Rattle.record.specs.Reader.{got}
-use Rattle.record.specs.Good.{NamesOk}
+use Rattle.record.specs.Shape.{shape-of}
+use Rattle.record.specs.Good.{Each, NamesOk}
 use Rattle.record.proofs.Accepted.{read-ok}
 use Rattle.record.proofs.Typed.{accept-typed}
 use Rattle.record.proofs.Tests.{and-left, and-right}
+use Rattle.numbering.proofs.Saves.{Dests}
 use Rattle.running.specs.declared.Ending.{Ending}
 use Rattle.running.specs.declared.Ran.the-variants.{Done}
-use Rattle.machine.specs.Machine.{Store, Context, plain-machine, Answer, value, go-on, halt, Event, Mach, Step, goes, jumps, ends, tick, assign, happens, read-all, finish, take-value, answered, perform, ask, acknowledged, tell, leave, choose, act, step}
-use Rattle.running.specs.Steps.{Stand, facing, over, Config, first-of, land-in, land, moved, step-from, take-step, steps, start}
+use Rattle.machine.specs.Machine.{Store, Context, plain-machine, Answer, Mach, tick, assign, happens}
+use Rattle.running.specs.Steps.{steps, start}
 use Rattle.running.specs.House.{stored, of-type, of-types, holding, values-from, store-bytes}
-use Rattle.running.specs.Engine.{engine}
-use Rattle.running.proofs.Steps.{mach-of}
+use Rattle.running.specs.Engine.{running-for, lets-pass, engine}
+use Rattle.running.proofs.Kept.{Gives, computed, told, performed, Keeps, steps-keep}
 use Rattle.running.proofs.House.{TypesPass, store-reads-back}
-use Rattle.running.proofs.Engine.{IsMachine, engine-is-machine}
+use Rattle.running.proofs.Engine.{Given, IsMachine, engine-is-machine}
 use Rattle.pairing.specs.Demand.{All}
 use Rattle.pairing.proofs.Fit.{FitInstr, FitBody, FitFunction}
 use Rattle.pairing.proofs.Typing.{eval-typed}
 use Rattle.pairing.proofs.Accepted.{accepted-fit}
 
--- t: the type of each name
-abbrev Typing : (NameIx → ℕ) → Store → Type 0
-Typing t σ = (x : NameIx) (v : Val) → σ x ≡ some v → HasType (t x) v
+-- t: the type of each name; N: how many there are
+pub record Sound (N : ℕ) (t : NameIx → ℕ) (σ : Store) : Type 0 where
+  pub typed : (x : NameIx) (v : Val) → σ x ≡ some v → HasType (t x) v
+  pub beyond : (x : NameIx) → N ≤ x .0 → σ x ≡ none
 
 -- ---- one step
-module _ (t : NameIx → ℕ) where
-  assign-typed : (σ : Store) (d : NameIx) (v : Val) → Typing t σ → HasType (t d) v → Typing t (upd NameIx-discrete σ d (some v))
-  unfolding upd
-  assign-typed σ d v h k x u e = go (NameIx-discrete x d) e
-    where
-      go : (q : Dec (x ≡ d)) → pick q (some v) (σ x) ≡ some u → HasType (t x) u
-      go (yes p) e = let z : v ≡ u = cc e in subst (λ (y : NameIx). HasType (t y) u) (sym p) (subst (HasType (t d)) z k)
-      go (no p) e = h x u e
+assign-sound :
+    (N : ℕ) (t : NameIx → ℕ) (σ : Store) (d : NameIx) (v : Val) →
+    Sound N t σ → d .0 < N → HasType (t d) v → Sound N t (upd NameIx-discrete σ d (some v))
+unfolding upd
+assign-sound N t σ d v h l k =
+    record { typed = λ x u e. at-typed x u (NameIx-discrete x d) e; beyond = λ x b. at-beyond x b (NameIx-discrete x d) }
+  where
+    at-typed : (x : NameIx) (u : Val) (q : Dec (x ≡ d)) → pick q (some v) (σ x) ≡ some u → HasType (t x) u
+    at-typed x u (yes p) e = let z : v ≡ u = cc e in subst (λ (y : NameIx). HasType (t y) u) (sym p) (subst (HasType (t d)) z k)
+    at-typed x u (no p) e = h .typed x u e
 
-  Keeps : Step → Type 0
-  Keeps s = Typing t (mach-of s .store)
+    at-beyond : (x : NameIx) → N ≤ x .0 → (q : Dec (x ≡ d)) → pick q (some v) (σ x) ≡ none
+    at-beyond x b (yes p) = absurd (omega (arith, l, b, ap (λ (y : NameIx). y .0) p))
+    at-beyond x b (no p) = h .beyond x b
 
-  finish-keeps :
-      (i : Instr) (m : Mach) (r : Result) → Typing t (m .store) → ((v : Val) → r ≡ ok v → HasType (t (i .dest)) v) → Keeps (finish i m r)
-  unfolding Keeps finish assign
-  finish-keeps i m (ok v) h k = assign-typed (m .store) (i .dest) v h (k v refl)
-  finish-keeps i m (stops c) h k = h
-  finish-keeps i m unset h k = h
-
-  take-value-keeps :
-      (b : Bool) (i : Instr) (m : Mach) (v : Val) → Typing t (m .store) → (b ≡ true → HasType (t (i .dest)) v) → Keeps (take-value b i m v)
-  unfolding Keeps take-value assign
-  take-value-keeps true i m v h k = assign-typed (m .store) (i .dest) v h (k refl)
-  take-value-keeps false i m v h k = h
-
-  answered-keeps : (i : Instr) (m : Mach) (e : Event) (xs : List Answer) → Typing t (m .store) → Keeps (answered (t (i .dest)) i m e xs)
-  unfolding Keeps answered happens
-  answered-keeps i m e [] h = h
-  answered-keeps i m e (value v ∷ xs) h =
-      take-value-keeps (has-type (t (i .dest)) v) i (happens m e xs) v h (λ p. rw p tt)
-  answered-keeps i m e (go-on ∷ xs) h = h
-  answered-keeps i m e (halt ∷ xs) h = h
-
-  acknowledged-keeps : (m : Mach) (e : Event) (xs : List Answer) → Typing t (m .store) → Keeps (acknowledged m e xs)
-  unfolding Keeps acknowledged happens
-  acknowledged-keeps m e [] h = h
-  acknowledged-keeps m e (value v ∷ xs) h = h
-  acknowledged-keeps m e (go-on ∷ xs) h = h
-  acknowledged-keeps m e (halt ∷ xs) h = h
-
-  tell-keeps : (i : Instr) (m : Mach) (o : Option (List Val)) → Typing t (m .store) → Keeps (tell i m o)
-  unfolding Keeps tell
-  tell-keeps i m none h = h
-  tell-keeps i m (some vs) h = acknowledged-keeps m _ (m .answers) h
-
-  leave-keeps : (i : Instr) (m : Mach) (o : Option (List Val)) → Typing t (m .store) → Keeps (leave i m o)
-  unfolding Keeps leave happens
-  leave-keeps i m none h = h
-  leave-keeps i m (some vs) h = h
-
-  choose-keeps : (b c : ℕ) (m : Mach) (o : Option Bool) → Typing t (m .store) → Keeps (choose b c m o)
-  unfolding Keeps choose
-  choose-keeps b c m none h = h
-  choose-keeps b c m (some true) h = h
-  choose-keeps b c m (some false) h = h
-
--- ---- steps of a function
 module _ (f : Function) where
+  abbrev N : ℕ
+  N = names-of f
+
   abbrev t : NameIx → ℕ
   t = type-in (f .types)
 
   abbrev ctx : Context
   ctx = plain-machine f
 
-  ask-keeps : (i : Instr) (m : Mach) (o : Option (List Val)) → Typing t (m .store) → Keeps t (ask ctx i m o)
-  unfolding Keeps ask perform
-  ask-keeps i m none h = h
-  ask-keeps i m (some vs) h = answered-keeps t i m _ (m .answers) h
+  module _ (i : Instr) (fit : FitInstr N t i) where
+    given-typed : (σ : Store) (v : Val) → Sound N t σ → Gives ctx i σ v → HasType (t (i .dest)) v
+    given-typed σ v h (computed e p q) = eval-typed t σ e (t (i .dest)) (fit .typed e p) (λ x u r l. h .typed x u r) v q
+    given-typed σ v h (told xs p q) = rw q tt
+    given-typed σ v h (performed xs vs p q) = clash (cc q)
 
-  act-keeps :
-      (i : Instr) (m : Mach) (g : Form) →
-      Typing t (m .store) →
-      ((e : Expr NameIx) → g ≡ pure e → (v : Val) → eval (m .store) e ≡ ok v → HasType (t (i .dest)) v) →
-      Keeps t (act ctx i m g)
-  unfolding Keeps act
-  act-keeps i m (pure e) h k = finish-keeps t i m (eval (m .store) e) h (k e refl)
-  act-keeps i m (new xs) h k = ask-keeps i m (read-all (m .store) xs) h
-  act-keeps i m (effect xs) h k = tell-keeps t i m (read-all (m .store) xs) h
-  act-keeps i m (return xs) h k = leave-keeps t i m (read-all (m .store) xs) h
-  act-keeps i m nop h k = h
-  act-keeps i m (jump b) h k = h
-  act-keeps i m (branch a b c) h k = choose-keeps t b c m _ h
+    abbrev with-dest : Form → Type 0
+    with-dest g = Dests N (shape-of (i .code) .dest) (i .dest) g
 
-  step-keeps : (i : Instr) (m : Mach) → FitInstr (names-of f) t i → Typing t (m .store) → Keeps t (step ctx i m)
-  unfolding step tick
-  step-keeps i m fit h =
-      act-keeps i (tick m) (form t i) h
-      (λ e p v q. eval-typed t (m .store) e (t (i .dest)) (fit .typed e p) (λ x u r l. h x u r) v q)
+    given-below : (σ : Store) (v : Val) → Gives ctx i σ v → i .dest .0 < N
+    given-below σ v (computed e p q) = subst with-dest p (fit .original) .1
+    given-below σ v (told xs p q) = subst with-dest p (fit .original) .1
+    given-below σ v (performed xs vs p q) = clash (cc q)
 
-  -- what is still to be done in the block satisfies what the function's instructions do
-  abbrev FitStand : Stand → Type 0
-  FitStand (facing b i is) = FitBody (names-of f) t (i ∷ is)
-  FitStand (over s) = Unit {0}
+    fit-keeps : Keeps ctx i (λ m. Sound N t (m .store))
+    unfolding tick assign happens
+    fit-keeps =
+        record {
+          ticked = λ m h. h;
+          assigned = λ m v g h. assign-sound N t (m .store) (i .dest) v h (given-below (m .store) v g) (given-typed (m .store) v h g);
+          added = λ m vs xs s r h. h;
+        }
 
-  first-fit : (b : ℕ) (is : List Instr) (other : Stand) → FitBody (names-of f) t is → FitStand other → FitStand (first-of b is other)
-  first-fit b [] other h k = k
-  first-fit b (i ∷ is) other h k = h
+  -- ---- steps of a function
+  body-each : (is : List Instr) → FitBody N t is → Each (λ left i. FitInstr N t i) is
+  body-each [] h = tt
+  body-each (i ∷ is) h = (h .0, body-each is (h .1 .1))
 
-  abbrev FitBlocks : List (Block Instr) → Type 0
-  FitBlocks bs = All (λ (b : Block Instr). FitBody (names-of f) t (b .body)) bs
+  blocks-each :
+      (bs : List (Block Instr)) → All (λ (b : Block Instr). FitBody N t (b .body)) bs → Each (λ left b. Each (λ left i. FitInstr N t i) (b .body)) bs
+  blocks-each [] h = tt
+  blocks-each (b ∷ bs) h = (body-each (b .body) (h .0), blocks-each bs (h .1))
 
-  land-in-fit : (b : ℕ) (bs : List (Block Instr)) → FitBlocks bs → FitStand (land-in b bs)
-  unfolding land-in
-  land-in-fit b [] h = tt
-  land-in-fit b (x ∷ bs) h = first-fit b (x .body) (land-in (suc b) bs) (h .0) (land-in-fit (suc b) bs (h .1))
-
-  drop-fit : (b : ℕ) (bs : List (Block Instr)) → FitBlocks bs → FitBlocks (drop b bs)
-  drop-fit zero bs h = h
-  drop-fit (suc b) [] h = tt
-  drop-fit (suc b) (x ∷ bs) h = drop-fit b bs (h .1)
-
-  module _ (fit : FitFunction f) where
-    land-fit : (b : ℕ) → FitStand (land (f .blocks) b)
-    unfolding land
-    land-fit b = land-in-fit b (drop b (f .blocks)) (drop-fit b (f .blocks) (fit .blocks))
-
-    pub record Fine (c : Config) : Type 0 where
-      pub stand : FitStand (c .stand)
-      pub store : Typing t (c .mach .store)
-
-    moved-fine : (b : ℕ) (is : List Instr) (s : Step) → FitBody (names-of f) t is → Keeps t s → Fine (moved (f .blocks) b is s)
-    unfolding Keeps
-    moved-fine b is (goes m) h k = record { stand = first-fit b is (land (f .blocks) (suc b)) h (land-fit (suc b)); store = k }
-    moved-fine b is (jumps c m) h k = record { stand = land-fit c; store = k }
-    moved-fine b is (ends s m) h k = record { stand = tt; store = k }
-
-    from-fine : (m : Mach) (d : Stand) → FitStand d → Typing t (m .store) → Fine (step-from ctx (f .blocks) m d)
-    from-fine m (facing b i is) h k = moved-fine b is (step ctx i m) (h .1 .1) (step-keeps i m (h .0) k)
-    from-fine m (over s) h k = record { stand = tt; store = k }
-
-    steps-fine : (k : ℕ) (c : Config) → Fine c → Fine (steps ctx (f .blocks) k c)
-    unfolding steps take-step
-    steps-fine zero c h = h
-    steps-fine (suc k) c h = steps-fine k (take-step ctx (f .blocks) c) (from-fine (c .mach) (c .stand) (h .stand) (h .store))
-
-    start-fine : (σ : Store) (xs : List Answer) → Typing t σ → Fine (start (f .blocks) σ xs)
-    unfolding start
-    start-fine σ xs h = record { stand = land-fit 0; store = h }
+  pub steps-sound :
+      FitFunction f → (k : ℕ) (σ : Store) (xs : List Answer) → Sound N t σ → Sound N t (steps ctx (f .blocks) k (start (f .blocks) σ xs) .mach .store)
+  steps-sound fit k σ xs h =
+      steps-keep ctx (λ m. Sound N t (m .store)) (λ i. FitInstr N t i) fit-keeps (f .blocks) (blocks-each (f .blocks) (fit .blocks)) k σ xs h
 
 -- ---- what a starting store that 13 lets pass holds
 holding-typed :
@@ -185,12 +113,32 @@ holding-typed :
     of-types ts vs ≡ true →
     (k : ℕ) (v : Val) → getD vs k none ≡ some v → has-type (getD ts k 0) v ≡ true
 unfolding of-types
-holding-typed [] [] e k v p = let z : _≡_ {A = ℕ} 0 1 = cc p in absurd (omega arith)
-holding-typed [] (o ∷ vs) e k v p = let z : _≡_ {A = ℕ} 0 1 = cc e in absurd (omega arith)
-holding-typed (t ∷ ts) [] e k v p = let z : _≡_ {A = ℕ} 0 1 = cc e in absurd (omega arith)
+holding-typed [] [] e k v p = clash (cc p)
+holding-typed [] (o ∷ vs) e k v p = clash (cc e)
+holding-typed (t ∷ ts) [] e k v p = clash (cc e)
 holding-typed (t ∷ ts) (o ∷ vs) e zero v p =
     subst (λ (x : Option Val). of-type t x ≡ true) p (and-left (of-type t o) (of-types ts vs) e)
 holding-typed (t ∷ ts) (o ∷ vs) e (suc k) v p = holding-typed ts vs (and-right (of-type t o) (of-types ts vs) e) k v p
+
+holding-beyond : (ts : List ℕ) (vs : List (Option Val)) → of-types ts vs ≡ true → (k : ℕ) → length ts ≤ k → getD vs k none ≡ none
+unfolding of-types
+holding-beyond [] [] e k l = refl
+holding-beyond [] (o ∷ vs) e k l = clash (cc e)
+holding-beyond (t ∷ ts) [] e k l = refl
+holding-beyond (t ∷ ts) (o ∷ vs) e zero l = absurd (omega (arith, l))
+holding-beyond (t ∷ ts) (o ∷ vs) e (suc k) l =
+    holding-beyond ts vs (and-right (of-type t o) (of-types ts vs) e) k (omega (arith, l))
+
+holding-sound : (ts : List ℕ) (vs : List (Option Val)) → of-types ts vs ≡ true → Sound (length ts) (type-in ts) (holding vs)
+unfolding type-in
+holding-sound ts vs e =
+    record {
+      typed = λ x v p. true-is (has-type (type-in ts x) v) (holding-typed ts vs e (x .0) v p);
+      beyond = λ x l. holding-beyond ts vs e (x .0) l;
+    }
+  where
+    true-is : (b : Bool) → b ≡ true → T b
+    true-is b p = rw p tt
 
 -- the types of an accepted record's names
 names-pass : (lim : Limits) (seen : List (List ℕ)) (xs : List Name) → NamesOk lim seen xs → TypesPass (map (λ x. x .type) xs)
@@ -204,7 +152,39 @@ pub record Continues (ts : List ℕ) (σ : Store) : Type 0 where
       stored (length ts) (store-bytes (values-from σ 0 (length ts))) 0 ≡
       got (values-from σ 0 (length ts)) (length (store-bytes (values-from σ 0 (length ts))))
   pub typed : of-types ts (values-from σ 0 (length ts)) ≡ true
-  pub holds : (x : NameIx) → x .0 < length ts → holding (values-from σ 0 (length ts)) x ≡ σ x
+  pub holds : holding (values-from σ 0 (length ts)) ≡ σ
+
+-- what a run leaves whose inputs 13 lets pass
+pub left-continues :
+    (s store list : List ℕ) (limit : ℕ) → Bytes s → (g : Given s store list) →
+    let f = function (plain (g .rec)) in
+    lets-pass limit f (g .values) (g .told) ≡ true →
+    Continues (f .types) (running-for limit f (g .values) (g .told) .mach .store)
+left-continues s store list limit bytes g pass =
+    let f = function (plain (g .rec)) in
+    let fit : FitFunction f = accepted-fit s bytes (g .rec) (g .rec-end) (g .accepted) in
+    let ok = read-ok limits s (g .rec) (g .rec-end) (accept-typed limits s (g .rec) (g .rec-end) (g .accepted) .reads) in
+    let types : TypesPass (f .types) = names-pass limits [] (plain (g .rec) .names) (ok .names) in
+    let typed : of-types (f .types) (g .values) ≡ true = and-left (of-types (f .types) (g .values)) _ pass in
+    let σ = running-for limit f (g .values) (g .told) .mach .store in
+    let last : Sound (names-of f) (type-in (f .types)) σ =
+    steps-sound f fit limit (holding (g .values)) (g .told) (holding-sound (f .types) (g .values) typed) in
+    let r = store-reads-back (f .types) σ types (λ x b v p. is-true (has-type (type-in (f .types) x) v) (last .typed x v p)) in
+    let n = length (f .types) in
+    let again : of-types (f .types) (values-from σ 0 n) ≡ true = r .1 in
+    record {
+      reads = r .0;
+      typed = again;
+      holds = λ i x. same σ n (r .2) (holding-beyond (f .types) (values-from σ 0 n) again) (last .beyond) x (decLt (x .0) n) i;
+    }
+  where
+    same :
+        (σ : Store) (n : ℕ) → ((x : NameIx) → x .0 < n → holding (values-from σ 0 n) x ≡ σ x) →
+        ((k : ℕ) → n ≤ k → getD (values-from σ 0 n) k none ≡ none) →
+        ((x : NameIx) → n ≤ x .0 → σ x ≡ none) →
+        (x : NameIx) → Dec (x .0 < n) → holding (values-from σ 0 n) x ≡ σ x
+    same σ n h k b x (yes l) = h x l
+    same σ n h k b x (no l) = k (x .0) (omega (arith, l)) ∙ sym (b x (omega (arith, l)))
 
 pub final-store-reads-back :
     (s store list : List ℕ) (limit : ℕ) (events left : List ℕ) (e l k : ℕ) (how : Ending) →
@@ -212,7 +192,6 @@ pub final-store-reads-back :
     (h : engine s store list limit events left ≡ Done e l k how) →
     let m = engine-is-machine s store list limit events left e l k how h in
     Continues (function (plain (m .given .rec)) .types) (m .mach .store)
-unfolding type-in
 final-store-reads-back s store list limit events left e l k how bytes h =
     go (engine-is-machine s store list limit events left e l k how h)
   where
@@ -220,19 +199,5 @@ final-store-reads-back s store list limit events left e l k how bytes h =
         (m : IsMachine s store list limit events left e l k how) →
         Continues (function (plain (m .given .rec)) .types) (m .mach .store)
     go m =
-        let g = m .given in
-        let f = function (plain (g .rec)) in
-        let fit : FitFunction f = accepted-fit s bytes (g .rec) (g .rec-end) (g .accepted) in
-        let ok = read-ok limits s (g .rec) (g .rec-end) (accept-typed limits s (g .rec) (g .rec-end) (g .accepted) .reads) in
-        let pass : TypesPass (f .types) = names-pass limits [] (plain (g .rec) .names) (ok .names) in
-        let σ = holding (g .values) in
-        let typed : of-types (f .types) (g .values) ≡ true = and-left (of-types (f .types) (g .values)) _ (m .passed) in
-        let first : (x : NameIx) (v : Val) → σ x ≡ some v → HasType (type-in (f .types) x) v =
-        λ x v p. true-is (has-type (type-in (f .types) x) v) (holding-typed (f .types) (g .values) typed (x .0) v p) in
-        let last = steps-fine f fit limit (start (f .blocks) σ (g .told)) (start-fine f fit σ (g .told) first) in
-        let r = store-reads-back (f .types) (m .mach .store) pass
-        (λ x b v p. is-true (has-type (type-in (f .types) x) v) (last .store x v (ap (λ (n : Mach). n .store x) (sym (m .by-steps)) ∙ p))) in
-        record { reads = r .0; typed = r .1; holds = r .2 }
-      where
-        true-is : (b : Bool) → b ≡ true → T b
-        true-is b p = rw p tt
+        subst (λ (n : Mach). Continues (function (plain (m .given .rec)) .types) (n .store)) (sym (m .by-steps))
+        (left-continues s store list limit bytes (m .given) (m .passed))

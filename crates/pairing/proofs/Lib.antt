@@ -31,5 +31,7 @@ pub mod NoProgress
 pub mod Division
 pub mod Joining
 pub mod Continued
+pub mod Resumed
 pub mod Theorems
+pub mod TheoremsRunning
 pub mod Contract

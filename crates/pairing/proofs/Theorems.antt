@@ -1,6 +1,7 @@
 -- Start here: what is proved of an accepted record and its rewriting, each theorem with its sentence.
 -- The statements are in specs/Demand.antt, and in numbering's specs/Ways.antt for demand 1 and specs/Ahead.antt for the figures; this file
--- puts together what the other files prove. What the contracts of rewrite and figures come to is in Contract.antt.
+-- puts together what the other files prove. What the contracts of rewrite and figures come to is in Contract.antt; what is proved of running
+-- an accession (document 02, Point 6) is in TheoremsRunning.antt.
 use Prim.Native.Nat.{ℕ, suc, _<_, _≤_}
 use mathlib.Core.Path.{_≡_, refl, sym, ap, _∙_, subst}
 use mathlib.Core.Logic.{_≢_, _↔_, _⊎_}

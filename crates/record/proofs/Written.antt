@@ -67,7 +67,7 @@ bounded : (w x most : ℕ) → x ≤ most → most < 256 ^ w → Bytes (be w x)
 bounded w x most h k = be-bytes w x (omega arith)
 
 -- ---- shapes
-few-enough : (c : ℕ) → shape-of c .known ≡ true → shape-of c .most ≤ 8
+pub few-enough : (c : ℕ) → shape-of c .known ≡ true → shape-of c .most ≤ 8
 unfolding shape-of
 few-enough c k = leb-true (shape-of c .most) 8 (at-known (λ c. leb (shape-of c .most) 8) computed c k)
   where

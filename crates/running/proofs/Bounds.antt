@@ -1,20 +1,35 @@
 -- How many bytes the events can need: each takes an answer but the one at which a run stops, and an event of eight arguments has 148 bytes.
 use Prim.Native.Nat.{ℕ, zero, suc, _+_, _*_, _≤_}
-use mathlib.Core.Path.{_≡_, _∙_}
-use mathlib.Core.Bool.{Bool, true, false, cond}
+use mathlib.Core.Path.{_≡_, refl, sym, ap, _∙_, subst}
+use mathlib.Core.Bool.{Bool, true, false, cond, not}
 use mathlib.Core.Option.{Option, none, some}
 use mathlib.Core.List.{List, [], _∷_, _++_, map}
 use native.Mathlib.Omega.{arith}
 use lib.ListN.{length, length-append}
+use lib.Dec.{eqb}
+use Rattle.arith.proofs.Clash.{clash}
 use Rattle.arith.specs.Value.{Val, int, float, literal, char, bool, pointer, has-type}
 use Rattle.arith.specs.Operation.{Result, ok, stops, unset}
-use Rattle.record.specs.Record.{Instr, Block}
+use Rattle.record.specs.declared.NameIx.{NameIx}
+use Rattle.record.specs.Record.{Instr, Placed, Block, Record, function, plain, limits, id-bytes}
 use Rattle.record.specs.Form.{Form, pure, new, effect, return, nop, jump, branch, form}
+use Rattle.record.specs.Reader.{got}
+use Rattle.record.specs.Shape.{shape-of}
+use Rattle.record.specs.Typing.{accept}
+use Rattle.record.specs.Good.{Each, InstrOk, BlockOk}
 use Rattle.record.specs.Write.{be, join}
 use Rattle.record.proofs.Stands.{length-be}
-use Rattle.machine.specs.Machine.{Store, Context, Answer, value, go-on, halt, Event, Mach, Step, goes, jumps, ends, tick, assign, happens, event-of, finish, take-value, answered, perform, ask, acknowledged, tell, leave, choose, act, step}
+use Rattle.record.proofs.Tests.{code-known}
+use Rattle.record.proofs.Written.{few-enough}
+use Rattle.record.proofs.Longest.{args-few}
+use Rattle.record.proofs.Sizes.{id-bytes-are}
+use Rattle.record.proofs.Form.{FormOf, of-constant, of-one, of-two, of-new, of-jump, of-branch, of-return, of-nop, of-effect, form-of}
+use Rattle.record.proofs.Accepted.{read-ok}
+use Rattle.record.proofs.Typed.{accept-typed}
+use Rattle.machine.specs.Machine.{Store, Context, plain-machine, Answer, value, go-on, halt, Event, Mach, Step, goes, jumps, ends, tick, assign, happens, read-all, read-cons, event-of, finish, take-value, answered, perform, ask, acknowledged, tell, leave, choose, act, step}
 use Rattle.running.specs.Steps.{Stand, facing, over, Config, moved, step-from, take-step, steps, start}
-use Rattle.running.specs.House.{type-byte, words, value-bytes, event-bytes}
+use Rattle.running.specs.House.{type-byte, words, value-bytes, event-bytes, events-bytes}
+use Rattle.running.proofs.Kept.{Shows, in-new, in-effect, in-return, Keeps, steps-keep}
 
 -- ---- events and the answers that are left
 -- over n answers at the start
@@ -179,3 +194,113 @@ event-size w e =
       length-append n (vs ++ []),
       length-append vs [],
     )
+
+-- ---- "argument count 0 to 8": the values of an event
+abbrev asked : Form → List NameIx → List NameIx
+asked (pure e) ys = ys
+asked (new xs) ys = xs
+asked (effect xs) ys = xs
+asked (return xs) ys = xs
+asked nop ys = ys
+asked (jump b) ys = ys
+asked (branch a b c) ys = ys
+
+form-asked : (t : NameIx → ℕ) (i : Instr) {f : Form} → FormOf t i f → asked f (i .args) ≡ i .args
+form-asked t i (of-constant e) = refl
+form-asked t i (of-one o e) = refl
+form-asked t i (of-two o e) = refl
+form-asked t i of-new = refl
+form-asked t i (of-jump e) = refl
+form-asked t i (of-branch e) = refl
+form-asked t i (of-return e) = refl
+form-asked t i (of-nop e) = refl
+form-asked t i of-effect = refl
+
+read-all-length : (σ : Store) (xs : List NameIx) (vs : List Val) → read-all σ xs ≡ some vs → length vs ≡ length xs
+unfolding read-all
+read-all-length σ [] vs e = let z : [] ≡ vs = cc e in ap length (sym z)
+read-all-length σ (x ∷ xs) vs e = go (σ x) (read-all σ xs) (λ us h. read-all-length σ xs us h) e
+  where
+    go :
+        (o : Option Val) (p : Option (List Val)) → ((us : List Val) → p ≡ some us → length us ≡ length xs) →
+        read-cons o p ≡ some vs → length vs ≡ suc (length xs)
+    go none p h e = clash (cc e)
+    go (some v) none h e = clash (cc e)
+    go (some v) (some us) h e =
+        let z : v ∷ us ≡ vs = cc e in
+        ap length (sym z) ∙ ap suc (h us refl)
+
+abbrev pub FewValues : List Event → Type 0
+FewValues es = Each (λ left e. length (e .args) ≤ 8) es
+
+and-last : (es : List Event) (e : Event) → FewValues es → length (e .args) ≤ 8 → FewValues (es ++ (e ∷ []))
+and-last [] e h k = (k, tt)
+and-last (x ∷ es) e h k = (h .0, and-last es e (h .1) k)
+
+module _ (ctx : Context) (i : Instr) where
+  -- as many as its instruction has arguments
+  pub shown-length : (σ : Store) (vs : List Val) → Shows ctx i σ vs → length vs ≡ length (i .args)
+  shown-length σ vs h = go h
+    where
+      of-form : (f : Form) → form (ctx .types) i ≡ f → asked f (i .args) ≡ i .args
+      of-form f e = subst (λ (g : Form). asked g (i .args) ≡ i .args) e (form-asked (ctx .types) i (form-of (ctx .types) i))
+
+      go : Shows ctx i σ vs → length vs ≡ length (i .args)
+      go (in-new xs f e) = read-all-length σ xs vs e ∙ ap length (of-form (new xs) f)
+      go (in-effect xs f e) = read-all-length σ xs vs e ∙ ap length (of-form (effect xs) f)
+      go (in-return xs f e) = read-all-length σ xs vs e ∙ ap length (of-form (return xs) f)
+
+  few-kept : length (i .args) ≤ 8 → Keeps ctx i (λ m. FewValues (m .events))
+  unfolding tick assign happens
+  few-kept l =
+      record {
+        ticked = λ m h. h;
+        assigned = λ m v g h. h;
+        added = λ m vs xs s r h. and-last (m .events) (event-of i vs) h (omega (arith, l, shown-length (m .store) vs s));
+      }
+
+-- ---- the instructions of an accepted function
+instr-few : (N B left : ℕ) (i : Instr) → InstrOk N B left i → length (i .args) ≤ 8
+instr-few N B left i h =
+    let sh = shape-of (i .code) in
+    args-few N sh (i .args) (not (sh .literal)) (few-enough (i .code) (code-known (eqb left 0) (i .code) (h .code))) (h .rest .args)
+
+abbrev FewIn : List Instr → Type 0
+FewIn is = Each (λ left i. length (i .args) ≤ 8) is
+
+body-few : (N B : ℕ) (is : List Instr) → Each (InstrOk N B) is → FewIn is
+body-few N B [] h = tt
+body-few N B (i ∷ is) h = (instr-few N B (length is) i (h .0), body-few N B is (h .1))
+
+blocks-few : (N B : ℕ) (bs : List (Block Instr)) → Each (λ left b. BlockOk limits N B b) bs → Each (λ left b. FewIn (b .body)) bs
+blocks-few N B [] h = tt
+blocks-few N B (b ∷ bs) h = (body-few N B (b .body) (h .0 .body), blocks-few N B bs (h .1))
+
+events-size : (w : ℕ) (es : List Event) → w ≤ 8 → FewValues es → length (events-bytes w es) ≤ 148 * length es
+unfolding events-bytes join
+events-size w [] l h = omega arith
+events-size w (e ∷ es) l h =
+    let r = join (map (event-bytes w) es) in
+    omega (arith, l, h .0, event-size w e, events-size w es l (h .1), length-append (event-bytes w e) r)
+
+module _ (s : List ℕ) (r : Record Placed) (p : ℕ) (accepted : accept limits s ≡ got r p) (σ : Store) (xs : List Answer) (k : ℕ) where
+  abbrev left : Mach
+  left = let f = function (plain r) in steps (plain-machine f) (f .blocks) k (start (f .blocks) σ xs) .mach
+
+  -- no event has more than eight values
+  pub events-values : FewValues (left .events)
+  events-values =
+      let f = function (plain r) in
+      let ok = read-ok limits s r p (accept-typed limits s r p accepted .reads) in
+      steps-keep (plain-machine f) (λ m. FewValues (m .events)) (λ i. length (i .args) ≤ 8)
+      (λ i l. few-kept (plain-machine f) i l) (f .blocks) (blocks-few _ _ (plain r .blocks) (ok .blocks)) k σ xs tt
+
+  -- 148 bytes suffice for each, of which there is at most one more than there are answers
+  pub events-room : length (events-bytes (id-bytes (r .version)) (left .events)) ≤ 148 * suc (length xs)
+  events-room =
+      let f = function (plain r) in
+      omega (
+        arith,
+        events-size (id-bytes (r .version)) (left .events) (id-bytes-are (r .version) .1) events-values,
+        events-few (plain-machine f) (f .blocks) σ xs k,
+      )

@@ -195,7 +195,7 @@ pub record Tells (room more : ℕ) (o : Outcome) (e l k : ℕ) (how : Ending) : 
   pub steps-count : config .mach .steps ≡ k
   pub ending : ending-of (config .stand) ≡ how
 
-result-tells :
+pub result-tells :
     (room more : ℕ) (o : Outcome) (e l k : ℕ) (how : Ending) →
     result room more o ≡ Done e l k how →
     Tells room more o e l k how
@@ -240,7 +240,7 @@ pub record IsMachine (s store list : List ℕ) (limit : ℕ) (events left : List
       engine-store s store list limit events left ≡
       written (store-bytes (values-from (mach .store) 0 (names-of (function (plain (given .rec)))))) left
 
-events-written :
+pub events-written :
     (lent : List ℕ) (more : ℕ) (o : Outcome) (w N : ℕ) (c : Config) →
     o ≡ ran w N c →
     too-short (length lent) more (length (events-left w c)) (length (store-left N c)) ≡ false →
@@ -248,7 +248,7 @@ events-written :
 unfolding events-out
 events-written lent more o w N c p q = rw (p, q)
 
-store-written :
+pub store-written :
     (room : ℕ) (lent : List ℕ) (o : Outcome) (w N : ℕ) (c : Config) →
     o ≡ ran w N c →
     too-short room (length lent) (length (events-left w c)) (length (store-left N c)) ≡ false →
@@ -321,6 +321,13 @@ limit-said f σ xs limit how m (by-stop n t b p e j h k) = (
   λ z. absurd (omega (arith, h, z n t b p e, ap (λ (m : Mach). m .steps) j)),
 )
 limit-said f σ xs limit how m (by-limit e h j k) = (λ z. j, λ z. k)
+
+-- then the steps are the limit
+pub limit-steps :
+    (f : Function) (σ : Store) (xs : List Answer) (limit : ℕ) (how : Ending) (m : Mach) →
+    Ended f σ xs limit how m → how ≡ Limit → m .steps ≡ limit
+limit-steps f σ xs limit how m (by-stop n t b p e j h k) z = absurd (no-stop-is-limit t (sym z ∙ k))
+limit-steps f σ xs limit how m (by-limit e h j k) z = h
 
 -- ---- a run that 13 refuses for an answer is one that halts within the limit
 module _ (ctx : Context) (bs : List (Block Instr)) where

@@ -1,16 +1,22 @@
--- What a call leaves in what was lent: nothing is written where it is not done, and no lent part changes its length.
+-- What a call leaves in what was lent: nothing is written where it is not done, nothing beyond what it says where it is, and no lent part
+-- changes its length.
 use Prim.Native.Nat.{ℕ, _≤_}
-use mathlib.Core.Path.{_≡_, refl}
+use mathlib.Core.Path.{_≡_, refl, sym, ap, _∙_}
+use mathlib.Core.Logic.{_≢_}
 use mathlib.Core.Bool.{Bool, true, false, cond, _||_}
 use mathlib.Core.List.{List}
 use native.Mathlib.Omega.{arith}
 use lib.ListN.{length, drop, length-append, length-drop}
 use lib.Dec.{ltb}
+use lib.Seq.{drop-append-seam}
 use borrow.Author.Tests.{ltb-false}
-use Rattle.record.specs.Record.{limits}
+use Rattle.record.specs.Record.{function, plain, names-of, limits, id-bytes}
+use Rattle.running.specs.declared.Ending.{Ending}
 use Rattle.running.specs.declared.Ran.{Ran}
 use Rattle.running.specs.declared.Ran.the-variants.{Done, Refused, Unfit, Room}
+use Rattle.running.specs.House.{values-from, store-bytes, events-bytes}
 use Rattle.running.specs.Engine.{Outcome, refused, unfit, ran, outcome, ending-of, events-left, store-left, too-short, result, written, events-out, store-out, engine, engine-events, engine-store}
+use Rattle.running.proofs.Engine.{engine-is-machine}
 
 -- ---- "Both write nothing."
 abbrev pub is-done : Ran → Bool
@@ -47,6 +53,10 @@ written-length : (bytes lent : List ℕ) → length bytes ≤ length lent → le
 written-length bytes lent h =
     omega (arith, length-append bytes (drop (length bytes) lent), length-drop (length bytes) lent, h)
 
+written-beyond : (b lent out : List ℕ) (n : ℕ) → out ≡ written b lent → length b ≡ n → drop n out ≡ drop n lent
+written-beyond b lent out n p q =
+    (λ i. drop (sym q i) (p i)) ∙ drop-append-seam b (drop (length b) lent) ∙ ap (λ (x : ℕ). drop x lent) q
+
 outcome-lengths :
     (events left : List ℕ) (o : Outcome) →
     (length (events-out events (length left) o) ≡ length events) × (length (store-out (length events) left o) ≡ length left)
@@ -74,6 +84,29 @@ module _ (s store list : List ℕ) (limit : ℕ) (events left : List ℕ) where
       (engine-events s store list limit events left ≡ events) × (engine-store s store list limit events left ≡ left)
   unfolding engine engine-events engine-store
   untouched h = outcome-untouched events left (outcome limits s store list limit) h
+
+  pub not-done-untouched :
+      ((e l k : ℕ) (how : Ending) → engine s store list limit events left ≢ Done e l k how) →
+      (engine-events s store list limit events left ≡ events) × (engine-store s store list limit events left ≡ left)
+  not-done-untouched h = untouched (go (engine s store list limit events left) h)
+    where
+      go : (x : Ran) → ((e l k : ℕ) (how : Ending) → x ≢ Done e l k how) → is-done x ≡ false
+      go (Done e l k how) h = absurd (h e l k how refl)
+      go (Refused k o) h = refl
+      go Unfit h = refl
+      go (Room e l) h = refl
+
+  -- "lent bytes beyond the events and the store are untouched": beyond as many as it says
+  pub beyond-untouched :
+      (e l k : ℕ) (how : Ending) → engine s store list limit events left ≡ Done e l k how →
+      (drop e (engine-events s store list limit events left) ≡ drop e events) ×
+      (drop l (engine-store s store list limit events left) ≡ drop l left)
+  beyond-untouched e l k how h =
+      let m = engine-is-machine s store list limit events left e l k how h in
+      let r = m .given .rec in
+      let es = events-bytes (id-bytes (r .version)) (m .mach .events) in
+      let ls = store-bytes (values-from (m .mach .store) 0 (names-of (function (plain r)))) in
+      (written-beyond es events _ e (m .events-are) (m .events-count), written-beyond ls left _ l (m .store-is) (m .store-count))
 
   pub lent-lengths :
       (length (engine-events s store list limit events left) ≡ length events) ×

@@ -186,8 +186,10 @@ unfit-rows =
     at-13 call five "0000000A 01 04 0000000000000001" 1 ∷
     at-13 call five "00000002 01 FE" 1 ∷
     at-13 call five "00000013 01 00 0000000000000006 00 0000000000000006" 2 ∷
-    -- never taken, but they do not read: nothing, a bool that is 2, no characters, types 05, 14 and FC, cut off, version 2, no version
+    -- never taken, but they do not read: nothing, alone and with two words behind it, a bool that is 2, no characters, types 05, 14 and FC,
+    -- cut off, version 2, no version
     at-13 call five "00000003 01 FD FF" 9 ∷
+    at-13 call five "00000013 01 FD FF 0000000000000000 0000000000000000" 9 ∷
     at-13 call five "0000000B 01 FD 01 0000000000000002" 9 ∷
     at-13 call five "0000000B 01 FD 03 000000000000D800" 9 ∷
     at-13 call five "0000000B 01 FD 03 0000000000110000" 9 ∷
