@@ -27,7 +27,7 @@ pub fn wide(x: u8) -> u64
 }
 
 // The number of two bytes.
-fn two_of(s: &[u8], at: usize) -> u64
+pub fn two_of(s: &[u8], at: usize) -> u64
     requires { ⌜ at + 1 < length (now s) ⌝ }
     ensures { λ r. ⌜ (r ≡ num-at (now (s .entry)) at 2) × (r < 65536) ⌝ }
 {

@@ -25,7 +25,7 @@ pub struct Read {
 }
 
 // An id of w bytes.
-fn read_id(s: &[u8], at: usize, w: usize) -> u64
+pub fn read_id(s: &[u8], at: usize, w: usize) -> u64
     requires { ⌜ (at + 7 < places) × IdWidth w ⌝ }
     ensures { λ r. ⌜ (r ≡ num-at (now (s .entry)) at w) × (r < 256 ^ w) ⌝ }
 {

@@ -1,0 +1,4 @@
+pub mod Cells
+pub mod ByKind
+pub mod Values
+pub mod Rows
