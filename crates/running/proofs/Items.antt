@@ -59,7 +59,7 @@ stored-decodes s at =
     (bind-decodes _ (behind-decodes (num-at s at 1) s (at + 1)) give-decodes))
     give-decodes)
 
-answer-decodes : (s : List ℕ) (at : ℕ) → Decodes house-answer s at (answer-from s at) (answer-end s at)
+pub answer-decodes : (s : List ℕ) (at : ℕ) → Decodes house-answer s at (answer-from s at) (answer-end s at)
 unfolding house-answer answer-behind value-answer answer-from answer-end
 answer-decodes s at =
     bind-decodes _ (field-decodes 1 answer-test s at)
