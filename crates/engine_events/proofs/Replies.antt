@@ -151,8 +151,8 @@ module _ (s types starts list before : List ℕ) (event : ℕ) (t : Turn)
       module _ (after : List ℕ) (p : Spot) (next : ℕ) (f : b ≡ true) (h : kind ≢ halt-byte) (en : next ≡ instr-end (id-width s) s at)
           (store : b ≡ true → store-in after ≡ given (has-dest code) (answer-from list (t .answer)) (store-in before) (index-from s (at + w + 1)))
           (landed :
-              Landed s starts
-              (first-of (t .spot .block) (body-at s next (t .spot .left - 1)) (land (laid-out s starts) (t .spot .block + 1))) p) where
+          Landed s starts
+          (first-of (t .spot .block) (body-at s next (t .spot .left - 1)) (land (laid-out s starts) (t .spot .block + 1))) p) where
         abbrev gone : ℕ → ℕ → Turn
         gone answer answers =
             record { spot = p; more = t .more; answer = answer; answers = answers; event = event; tells = t .tells }

@@ -58,10 +58,19 @@ takes-requires c κs =
     let code = c .before .byte-or2 in
     let kind = w .before .before .byte-or in
     let some-left : 0 < a .t .answers = omega (arith, w .before .before .before .if1 .left) in
-    let n = near z in
-    (omega (arith, n), (dest-cell (z .pre .1 .1 .1 .1 .1 .0) (a .w) (z .pre .1 .1 .1 .1 .0) (code .result) (a .cells .now) (code .ensures .0) (z .pre .0 .names) (z .pre .1 .1 .1 .0),
-    (omega (arith, z .pre .1 .0 .answers, some-left), (sure-first (a .list .now) (a .t .answer) (a .t .answers) some-left (z .pre .1 .0 .sure),
-    λ e. c .before .before .if2 .left (kind .ensures .0 ∙ e)))))
+    let n = near z in (
+      omega (arith, n),
+      (
+        dest-cell (z .pre .1 .1 .1 .1 .1 .0) (a .w) (z .pre .1 .1 .1 .1 .0) (code .result) (a .cells .now) (code .ensures .0) (z .pre .0 .names) (z .pre .1 .1 .1 .0),
+        (
+          omega (arith, z .pre .1 .0 .answers, some-left),
+          (
+            sure-first (a .list .now) (a .t .answer) (a .t .answers) some-left (z .pre .1 .0 .sure),
+            λ e. c .before .before .if2 .left (kind .ensures .0 ∙ e),
+          ),
+        ),
+      ),
+    )
 
 returns-3 : tie.Need-returns-3
 returns-3 c =

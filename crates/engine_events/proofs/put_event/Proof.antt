@@ -8,6 +8,7 @@ use Rattle.write_bytes.proofs.Numbers.{id-width}
 use Rattle.engine_events.proofs.Events.{event-put}
 use Rattle.engine_events.proofs.put_event.Statement.{statement}
 use Rattle.engine_events.proofs.put_event.Tie as tie
+
 -- `engine_events::put_event` meets its contract: the parts of the event are written one behind the other.
 
 read-id-requires : tie.Need-read-id-requires

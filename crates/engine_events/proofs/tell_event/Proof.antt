@@ -34,7 +34,7 @@ returns c =
     ⊎-elim
     (λ v. subst (λ (m : List ℕ). EventPut (a .s .now) (a .at) (a .out .now) m (a .to) (read (args-at (a .s .now) (a .at)))) (sym (v .5)) (v .2 .ensures))
     (λ v. subst (λ (m : List ℕ). EventPut (a .s .now) (a .at) (a .out .now) m (a .to) (read (args-at (a .s .now) (a .at)))) (sym (v .1))
-        (event-past (a .s .now) (a .at) (a .out .now) (a .to) (read (args-at (a .s .now) (a .at))) (v .0 .left)))
+    (event-past (a .s .now) (a .at) (a .out .now) (a .to) (read (args-at (a .s .now) (a .at))) (v .0 .left)))
     (c .if1 .came) in
     let args = args-by (z .pre .0) (a .row) (size .before .byte-or .result) (z .pre .1 .1 .0) (size .before .byte-or .ensures .0) in
     event-told (a .s .now) (a .at) (a .out .now) (a .to) (c .if1 .out) (read (args-at (a .s .now) (a .at))) (a .w) (n .0 .0)
