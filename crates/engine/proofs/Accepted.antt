@@ -1,24 +1,24 @@
 -- An accepted record laid open: the tables of its types and of the places of its blocks, and that each block is sound.
 use Prim.Native.Nat.{ℕ, zero, suc, _+_, _<_, _≤_}
-use mathlib.Core.Path.{_≡_, refl, sym, ap, _∙_, subst}
-use mathlib.Core.List.{List, [], _∷_, map}
+use mathlib.Core.Path.{_≡_, sym, ap, _∙_, subst}
+use mathlib.Core.List.{List}
 use native.Mathlib.Omega.{arith}
 use lib.ListN.{length, getD, take, drop, replicate, length-replicate, length-map}
 use lib.Seq.{sets, sets-eq, take-append-seam}
 use Rattle.record.specs.declared.Checked.the-variants as answer
-use Rattle.record.specs.Record.{Instr, Block, limits, id-bytes}
+use Rattle.record.specs.Record.{limits, id-bytes}
 use Rattle.record.specs.Reader.{got, num-at}
 use Rattle.record.specs.Read.{read}
 use Rattle.record.specs.Good.{Each, BlockOk}
 use Rattle.record.specs.Answer.{checked}
-use Rattle.record.specs.Decode.{items, behind, instr-end, block-end, names-count, names-end, id-width, blocks-end, record-from}
-use Rattle.record.specs.Again.{instrs-from, instrs-end, Passing, block-in, blocks-in, record-in, types-in}
+use Rattle.record.specs.Decode.{items, behind, block-end, names-count, names-end, id-width, blocks-end, record-from}
+use Rattle.record.specs.Again.{instrs-end, Passing, block-in, blocks-in, record-in, types-in}
 use Rattle.record.specs.Sizes.{places-end}
 use Rattle.record.proofs.Tests.{at-most-le}
 use Rattle.record.proofs.Typed.{accept-typed}
 use Rattle.record.proofs.Decode.{item-at, length-items}
 use Rattle.record.proofs.Rows.{behind-on, behind-more, map-items}
-use Rattle.record.proofs.Again.{blocks-of, blocks-again, accepted-pass, passing-all, version-in, names-in, blocks-number, read-good, few-names}
+use Rattle.record.proofs.Again.{blocks-again, accepted-pass, passing-all, version-in, names-in, blocks-number, read-good, few-names}
 use Rattle.record.proofs.Judged.{accepted-as}
 use Rattle.read_layout.specs.declared.Layout.{Layout}
 use Rattle.read_layout.specs.Layout.{types-from, blocks-from, layout-of}
@@ -86,20 +86,23 @@ module _ (s : List ℕ) (h : checked s ≡ answer.Accepted) where
   near = omega (arith, blocks-near s _ reads)
 
   -- ---- each block
+  abbrev count-names : ℕ
+  count-names = length (record-in s .names)
+
   block-sound : (b : ℕ) → b < count → Sound s (place b + 2 + 2) (num-at s (place b) 2)
   unfolding blocks-in instrs-end block-end blocks-end
   block-sound b l =
       let p = accepted-pass s _ _ reads in
-      let ok : BlockOk limits (length (record-in s .names)) (p .blocks) (block-in w s (place b)) =
-      item-holds (λ (x : Block Instr). BlockOk limits (length (record-in s .names)) (p .blocks) x) (block-in w s) (block-end w s) b count at l (p .each) in
-      let passes : Passing (length (record-in s .names)) (block-in w s (place b) .body) = passing-all (length (record-in s .names)) (p .blocks) (block-in w s (place b) .body) (ok .body) in
+      let x = block-in w s (place b) in
+      let ok : BlockOk limits count-names (p .blocks) x =
+      item-holds (BlockOk limits count-names (p .blocks)) (block-in w s) (block-end w s) b count at l (p .each) in
+      let passes : Passing count-names (x .body) = passing-all count-names (p .blocks) (x .body) (ok .body) in
       let e : block-end w s (place b) ≤ behind (block-end w s) at count =
       subst (λ (k : ℕ). k ≤ behind (block-end w s) at count) (behind-more (block-end w s) at b)
       (behind-upto (block-end w s) (block-grows w s) (suc b) count at (omega (arith, l))) in
       record {
         passing =
-            subst (λ (is : List Instr). Passing (names-count s) is) (block-body w s (place b))
-            (subst (λ (n : ℕ). Passing n (block-in w s (place b) .body)) (names-in s) passes);
+            subst (Passing (names-count s)) (block-body w s (place b)) (subst (λ (n : ℕ). Passing n (x .body)) (names-in s) passes);
         inside = omega (arith, e, blocks-inside s _ reads);
       }
 

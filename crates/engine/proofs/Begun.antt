@@ -1,5 +1,5 @@
 -- What a call begins with: check's refusal, a store and a list of answers that read or not, and the run at its start.
-use Prim.Native.Nat.{ℕ, zero, suc, _+_, _*_, _%_, _<_, _≤_}
+use Prim.Native.Nat.{ℕ, zero, suc, _*_, _%_, _<_, _≤_}
 use mathlib.Core.Path.{_≡_, refl, sym, ap, _∙_, subst}
 use mathlib.Core.List.{List, []}
 use mathlib.Core.Bool.{Bool, true, false, cond, not, _&&_}
@@ -19,7 +19,7 @@ use Rattle.record.proofs.Judged.{refused-as}
 use Rattle.machine.specs.Machine.{plain-machine, Answer}
 use Rattle.running.specs.declared.Ran.{Ran}
 use Rattle.running.specs.declared.Ran.the-variants.{Refused, Unfit}
-use Rattle.running.specs.Steps.{Config, land, steps, start}
+use Rattle.running.specs.Steps.{land, steps, start}
 use Rattle.running.specs.House.{stored, answers, of-types, holding}
 use Rattle.running.specs.Items.{answer-from, answer-end}
 use Rattle.running.specs.Engine.{unfit-within, starting, running-for, lets-pass, engine}
@@ -28,11 +28,11 @@ use Rattle.running.proofs.Cases.{engine-refuses, store-unread, answers-unread, 
 use Rattle.running.proofs.Lent.{is-done, untouched}
 use Rattle.engine_cells.specs.Cells.{held-by, word-in, offset-in, store-in}
 use Rattle.engine_house.specs.declared.Told.the-variants.{Are, No}
-use Rattle.engine_house.specs.Reads.{Blank, StoreAs, Sure, ListOf, ListAs, longest-list}
+use Rattle.engine_house.specs.Reads.{Blank, StoreAs, ListAs, longest-list}
 use Rattle.engine_quiet.specs.declared.Spot.{Spot}
 use Rattle.engine_quiet.specs.Spot.{laid-out, told-types, Landed}
 use Rattle.engine_events.specs.declared.Turn.{Turn}
-use Rattle.engine_events.specs.Turn.{most-event, config-in, events-ahead}
+use Rattle.engine_events.specs.Turn.{config-in, events-ahead}
 use Rattle.engine_steps.specs.Came.{steps-of, unfit-of}
 use Rattle.engine.specs.Opened.{Opened, Begun, Engine}
 

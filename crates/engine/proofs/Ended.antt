@@ -9,9 +9,8 @@ use Rattle.record.specs.Decode.{items, id-width}
 use Rattle.record.specs.Again.{instrs-from}
 use Rattle.record.proofs.Again.{instrs-more}
 use Rattle.machine.specs.Machine.{Stop}
-use Rattle.running.specs.declared.Ending.{Ending}
 use Rattle.running.specs.declared.Ending.the-variants.{Division, Limit}
-use Rattle.running.specs.Steps.{Stand, over, first-of}
+use Rattle.running.specs.Steps.{over, first-of}
 use Rattle.running.specs.Engine.{stop-ending, ending-of}
 use Rattle.engine_quiet.specs.declared.Spot.{Spot}
 use Rattle.engine_quiet.specs.Spot.{stop-by, body-at, stand-of}

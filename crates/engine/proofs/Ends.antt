@@ -1,14 +1,14 @@
 -- Where the blocks of an accepted record end: behind as many bytes as are written of it, so inside it, and not far.
 use Prim.Native.Nat.{ℕ, zero, suc, _+_, _*_, _≤_}
 use mathlib.Core.Path.{_≡_, refl, sym, ap, _∙_}
-use mathlib.Core.List.{List, [], _∷_, map}
+use mathlib.Core.List.{List, map}
 use mathlib.Core.Bool.{Bool, true, false, cond, not}
 use native.Mathlib.Omega.{arith}
 use native.Mathlib.Nat.{add-zero}
 use lib.ListN.{length, drop, length-drop}
 use lib.Seq.{length-take-le}
 use Rattle.record.specs.declared.Shape.{Shape}
-use Rattle.record.specs.Record.{Instr, Placed, Block, Name, Record, plain, limits, id-bytes}
+use Rattle.record.specs.Record.{limits}
 use Rattle.record.specs.Shape.{targets, shape-of}
 use Rattle.record.specs.Reader.{got, num-at}
 use Rattle.record.specs.Read.{read}
@@ -22,7 +22,7 @@ use Rattle.record.proofs.Sizes.{join-cons, join-nil, total, operand-size, instr
 use Rattle.record.proofs.Longest.{record-most}
 use Rattle.record.proofs.Inside.{names-inside}
 use Rattle.record.proofs.ReadSize.{read-size}
-use Rattle.record.proofs.Again.{blocks-of, blocks-again, record-again, read-good}
+use Rattle.record.proofs.Again.{blocks-of, blocks-again, read-good}
 use Rattle.engine_quiet.proofs.Bodies.{block-body}
 
 -- ---- an instruction

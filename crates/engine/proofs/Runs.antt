@@ -2,8 +2,8 @@
 use Prim.Native.Nat.{ℕ, zero, suc, _+_, _-_, _≤_}
 use mathlib.Core.Path.{_≡_, refl, sym, ap, _∙_, subst}
 use mathlib.Core.Logic.{_≢_, _⊎_, inl, inr}
-use mathlib.Core.List.{List, [], _∷_, _++_, append-nil}
-use mathlib.Core.Bool.{Bool, true, false}
+use mathlib.Core.List.{List, [], append-nil}
+use mathlib.Core.Bool.{true, false}
 use native.Mathlib.Omega.{arith}
 use lib.ListN.{length}
 use Rattle.arith.proofs.Clash.{clash}
@@ -11,12 +11,12 @@ use Rattle.record.specs.Record.{Instr, Block}
 use Rattle.record.specs.Write.{join}
 use Rattle.record.specs.Decode.{id-width}
 use Rattle.machine.specs.Machine.{Context, Event, Stop, Mach}
-use Rattle.running.specs.Steps.{Stand, over, Config, take-step, steps}
+use Rattle.running.specs.Steps.{over, Config, take-step, steps}
 use Rattle.running.specs.House.{events-bytes}
 use Rattle.running.specs.Engine.{unfit-within}
 use Rattle.running.proofs.Steps.{over-stays}
 use Rattle.running.proofs.Shifted.{shifted, shifted-mach, shifted-shifted, steps-shifted}
-use Rattle.write_bytes.specs.Put.{put, Wrote}
+use Rattle.write_bytes.specs.Put.{Wrote}
 use Rattle.engine_quiet.specs.Spot.{unfit-number, laid-out, told-types}
 use Rattle.engine_quiet.proofs.Bodies.{instrs-grow}
 use Rattle.engine_events.specs.declared.Turn.{Turn}
@@ -26,7 +26,9 @@ use Rattle.engine.specs.Opened.{told-on}
 use Rattle.engine.proofs.Ended.{stop-at, stopped}
 
 -- ---- what is over takes no answer
-over-fits : (ctx : Context) (bs : List (Block Instr)) (k : ℕ) (e : Stop) (m : Mach) → unfit-within ctx bs k (record { stand = over e; mach = m }) ≡ false
+over-fits :
+    (ctx : Context) (bs : List (Block Instr)) (k : ℕ) (e : Stop) (m : Mach) →
+    unfit-within ctx bs k (record { stand = over e; mach = m }) ≡ false
 unfolding unfit-within take-step
 over-fits ctx bs zero e m = refl
 over-fits ctx bs (suc k) e m = over-fits ctx bs k e m
@@ -128,7 +130,8 @@ module _ (s types starts list : List ℕ) where
       unfolding events-bytes join
       none-told z =
           let g = c .fit (c .calm waits) in
-          let e : length (events-bytes (id-width s) (g .added)) ≡ 0 = ap (λ (es : List Event). length (events-bytes (id-width s) es)) (g .waited waits) in
+          let e : length (events-bytes (id-width s) (g .added)) ≡ 0 =
+          ap (λ (es : List Event). length (events-bytes (id-width s) es)) (g .waited waits) in
           omega (arith, g .wrote .end, e, z)
 
       pub reaches :

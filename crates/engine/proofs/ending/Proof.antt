@@ -20,19 +20,27 @@ read-id-requires c κs =
 
 returns-2 : tie.Need-returns-2
 unfolding stop-by stop-ending
-returns-2 c = let a = c .before .before .before .before .args in by-stop (a .s .now) (a .t .spot) 0 (omega (arith, c .before .if1 .left)) (c .match .keys1)
+returns-2 c =
+    let a = c .before .before .before .before .args in
+    by-stop (a .s .now) (a .t .spot) 0 (omega (arith, c .before .if1 .left)) (c .match .keys1)
 
 returns-3 : tie.Need-returns-3
 unfolding stop-by stop-ending
-returns-3 c = let a = c .before .before .before .before .args in by-stop (a .s .now) (a .t .spot) 1 (omega (arith, c .before .if1 .left)) (c .match .keys2)
+returns-3 c =
+    let a = c .before .before .before .before .args in
+    by-stop (a .s .now) (a .t .spot) 1 (omega (arith, c .before .if1 .left)) (c .match .keys2)
 
 returns-4 : tie.Need-returns-4
 unfolding stop-by stop-ending
-returns-4 c = let a = c .before .before .before .before .args in by-stop (a .s .now) (a .t .spot) 2 (omega (arith, c .before .if1 .left)) (c .match .keys3)
+returns-4 c =
+    let a = c .before .before .before .before .args in
+    by-stop (a .s .now) (a .t .spot) 2 (omega (arith, c .before .if1 .left)) (c .match .keys3)
 
 returns-5 : tie.Need-returns-5
 unfolding stop-by stop-ending
-returns-5 c = let a = c .before .before .before .before .args in by-stop (a .s .now) (a .t .spot) 3 (omega (arith, c .before .if1 .left)) (c .match .keys4)
+returns-5 c =
+    let a = c .before .before .before .before .args in
+    by-stop (a .s .now) (a .t .spot) 3 (omega (arith, c .before .if1 .left)) (c .match .keys4)
 
 returns-6 : tie.Need-returns-6
 returns-6 c =

@@ -55,19 +55,7 @@ run-opened-requires c κs =
 pub run-accepted-spec : {M : Type 1} → statement M
 run-accepted-spec =
     tie.close
-    (tie.spec
-    (λ c. search needs)
-    (λ c. search needs)
-    (λ c κs. search needs)
-    (λ c. search needs)
-    (λ c. search needs)
-    fill-blocks-requires
-    (λ c. search needs)
-    array-share-prefix-types
-    slice-aggregate-run-opened
-    array-share-prefix-starts
-    slice-aggregate-run-opened-2
-    run-opened-requires
-    (λ c. search needs)
-    (λ c. search needs)
+    (tie.spec (λ c. search needs) (λ c. search needs) (λ c κs. search needs) (λ c. search needs) (λ c. search needs)
+    fill-blocks-requires (λ c. search needs) array-share-prefix-types slice-aggregate-run-opened
+    array-share-prefix-starts slice-aggregate-run-opened-2 run-opened-requires (λ c. search needs) (λ c. search needs)
     (λ c. search needs))

@@ -23,13 +23,17 @@ steps-requires-2 : tie.Need-steps-requires-2
 steps-requires-2 c κs =
     let told = c .before .before in
     let came = told .before .before .before in
-    let entry = came .before .before .before .before .before .before .before .before .before .before .before .before .before .before .before in (
+    let stored = came .before .before .before .before in
+    let entry = stored .before .before .before .before .before .before .before .before .before .before .before in (
       entry .pre .0 .grounded,
       (
         ready-on (came .steps .result) (told .telling .ensures) (came .steps .ensures .ready),
         (
           search needs,
-          (came .before .before .before .id-width .ensures .0, fits-still (came .steps .result) (told .telling .ensures) (came .steps .ensures .calm (entry .pre .1 .waits))),
+          (
+            came .before .before .before .id-width .ensures .0,
+            fits-still (came .steps .result) (told .telling .ensures) (came .steps .ensures .calm (entry .pre .1 .waits)),
+          ),
         ),
       ),
     )
@@ -47,7 +51,14 @@ returns-2 c =
     (begun .waits) (begun .first) (came .steps .ensures) (told .telling .ensures) (went .steps2 .ensures) _ _ (c .if2 .taken)
 
 put-store-requires : tie.Need-put-store-requires
-put-store-requires c κs = c .before .before .before .before .before .before .before .before .before .before .before .before .before .before .before .before .before .before .before .before .before .before .before .before .before .before .before .pre .0 .few
+put-store-requires c κs =
+    let test = c .before .before in
+    let went = test .before .before .before .before in
+    let told = went .before .before .before in
+    let came = told .before .before .before in
+    let stored = came .before .before .before .before in
+    let entry = stored .before .before .before .before .before .before .before .before .before .before .before in
+    entry .pre .0 .few
 
 returns-3 : tie.Need-returns-3
 returns-3 c =
@@ -66,34 +77,60 @@ returns-3 c =
 
 steps-requires-3 : tie.Need-steps-requires-3
 steps-requires-3 c κs =
-    let told = c .before .before .before .before .before .before .before .before .before .before .before .before .before .before .before in
+    let room = c .before .before in
+    let put = room .before .before .before in
+    let test = put .before .before .before in
+    let went = test .before .before .before .before in
+    let told = went .before .before .before in
     let came = told .before .before .before in
-    let entry = came .before .before .before .before .before .before .before .before .before .before .before .before .before .before .before in (
+    let stored = came .before .before .before .before in
+    let entry = stored .before .before .before .before .before .before .before .before .before .before .before in (
       entry .pre .0 .grounded,
       (
         ready-on (came .steps .result) (told .telling .ensures) (came .steps .ensures .ready),
         (
           search needs,
-          (came .before .before .before .id-width .ensures .0, fits-still (came .steps .result) (told .telling .ensures) (came .steps .ensures .calm (entry .pre .1 .waits))),
+          (
+            came .before .before .before .id-width .ensures .0,
+            fits-still (came .steps .result) (told .telling .ensures) (came .steps .ensures .calm (entry .pre .1 .waits)),
+          ),
         ),
       ),
     )
 
 put-store-requires-2 : tie.Need-put-store-requires-2
-put-store-requires-2 c κs = c .before .before .before .before .before .before .before .before .before .before .before .before .before .before .before .before .before .before .before .before .before .before .before .before .before .before .before .before .before .before .before .before .before .before .before .before .before .before .before .pre .0 .few
+put-store-requires-2 c κs =
+    let room = c .before .before .before .before .before .before .before .before in
+    let put = room .before .before .before in
+    let test = put .before .before .before in
+    let went = test .before .before .before .before in
+    let told = went .before .before .before in
+    let came = told .before .before .before in
+    let stored = came .before .before .before .before in
+    let entry = stored .before .before .before .before .before .before .before .before .before .before .before in
+    entry .pre .0 .few
 
 sub-t33 : tie.Need-sub-t33
 sub-t33 c =
-    let went = c .before .before .before .before .before .before .before .before .before .before .before .before .before .before .before .before .before .before .before .before .before .before .before in
+    let room = c .before .before .before .before .before .before .before .before .before .before .before .before .before in
+    let put = room .before .before .before in
+    let test = put .before .before .before in
+    let went = test .before .before .before .before in
     let told = went .before .before .before in
     let came = told .before .before .before in
     omega (arith, came .steps .ensures .fewer, came-on (came .steps .result) (told .telling .ensures) (went .steps2 .ensures) .fewer)
 
 ending-requires : tie.Need-ending-requires
 ending-requires c κs =
-    let went = c .before .before .before .before .before .before .before .before .before .before .before .before .before .before .before .before .before .before .before .before .before .before .before in
-    let entry = went .before .before .before .before .before .before .before .before .before .before .before .before .before .before .before .before .before .before .before .before .before in
-    (went .before .before .before .before .before .before .before .before .before .id-width .ensures .0, omega (arith, spot-inside _ _ _ _ (went .steps2 .ensures .ready), entry .good .0 .0))
+    let room = c .before .before .before .before .before .before .before .before .before .before .before .before .before in
+    let put = room .before .before .before in
+    let test = put .before .before .before in
+    let went = test .before .before .before .before in
+    let told = went .before .before .before in
+    let came = told .before .before .before in
+    let stored = came .before .before .before .before in
+    let entry = stored .before .before .before .before .before .before .before .before .before .before .before in
+    (came .before .before .before .id-width .ensures .0, omega (arith, spot-inside _ _ _ _ (went .steps2 .ensures .ready), entry .good .0 .0))
 
 returns-4 : tie.Need-returns-4
 returns-4 c =
@@ -116,29 +153,8 @@ returns-4 c =
 pub run-told-spec : {M : Type 1} → statement M
 run-told-spec =
     tie.close
-    (tie.spec
-    (λ c. search needs)
-    read-store-requires
-    returns
-    (λ c κs. search needs)
-    (λ c. search needs)
-    (λ c. search needs)
-    (λ c κs. search needs)
-    (λ c κs. search needs)
-    (λ c. search needs)
-    (λ c. search needs)
-    steps-requires-2
-    returns-2
-    (λ c. search needs)
-    (λ c. search needs)
-    put-store-requires
-    returns-3
-    (λ c. search needs)
-    steps-requires-3
-    (λ c. search needs)
-    put-store-requires-2
-    sub-t33
-    ending-requires
-    (λ c. search needs)
-    (λ c. search needs)
-    returns-4)
+    (tie.spec (λ c. search needs) read-store-requires returns (λ c κs. search needs) (λ c. search needs)
+    (λ c. search needs) (λ c κs. search needs) (λ c κs. search needs) (λ c. search needs) (λ c. search needs)
+    steps-requires-2 returns-2 (λ c. search needs) (λ c. search needs) put-store-requires returns-3 (λ c. search needs)
+    steps-requires-3 (λ c. search needs) put-store-requires-2 sub-t33 ending-requires (λ c. search needs)
+    (λ c. search needs) returns-4)
