@@ -15,6 +15,8 @@
  *     9  rewrite: the output is too short
  *    11  name text: the rewriting does not belong to the input
  *    12  figures: fewer places than blocks
+ *    13  run: store or answers do not read, a stored value is not of its name's type, or an answer that was taken does not fit
+ *    14  run: too few bytes were lent for the events or for the final store
  *
  * Every input is answered: nothing is asked of the bytes. Of the pointers it is asked that each points to as many bytes, or numbers, as
  * its length or type says, that none is null (not even with length 0), and that nothing which a call writes overlaps with anything else
@@ -70,6 +72,29 @@ typedef struct {
  * input; 6 if the index is not below the rewriting's count of names. Nothing else of the rewriting is tested. */
 uint8_t lvn_name_text(const uint8_t *input, size_t input_length, const uint8_t *rewriting, size_t rewriting_length, size_t index,
                       lvn_named *answer);
+
+/* What lvn_run leaves.
+ * events: 0, 14: the bytes of the events. 1 to 8: the offset of the record's first fault. 13: 0.
+ * store: 0, 14: the bytes of the final store. Else 0.
+ * steps: 0: the steps taken. Else 0.
+ * ended: 0: how the run ended: 0 at the end, 1 ret, 2 halt, 3 unset, 4 a division by zero, 5 the limit is spent. Else 0.
+ * id: 0 with ended 4: the id of that division. Else 0. */
+typedef struct {
+    uint64_t events;
+    uint64_t store;
+    uint64_t steps;
+    uint64_t ended;
+    uint64_t id;
+} lvn_ran;
+
+/* Runs the function of a record on the plain machine, from a starting store and with a list of answers, for at most limit steps: 0, a
+ * refusal of lvn_check, 13 or 14. store and answers are in the house form of docs/REFERENCE.md.
+ * 0: the events stand first in events, the final store, in the house form too, in final_store; the bytes beyond are as they were. The
+ * limit is spent exactly if the machine has not ended within that many steps.
+ * A refusal leaves both as they were. 148 bytes of events for each answer, and 148 more, are always enough, and 4,357 of final_store. */
+uint8_t lvn_run(const uint8_t *record, size_t record_length, const uint8_t *store, size_t store_length, const uint8_t *answers,
+                size_t answers_length, uint64_t limit, uint8_t *events, size_t events_length, uint8_t *final_store, size_t final_length,
+                lvn_ran *answer);
 
 #ifdef __cplusplus
 }

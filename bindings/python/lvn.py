@@ -1,4 +1,4 @@
-"""Local value numbering of Bril function records: check, rewrite, figures and name text, over the proved library.
+"""Local value numbering of Bril function records: check, rewrite, figures, name text and run, over the proved library.
 
 A record is bytes, a bytearray, a memoryview or another buffer. One that is refused raises `Refused`, and then nothing is written.
 What the library answers is proved in crates/exports; include/lvn.h says it in words. Calls may run in several threads at once.
@@ -10,8 +10,8 @@ from typing import Any, List, NamedTuple, Tuple, Union
 
 import lvn_library
 
-__all__ = ["Figures", "Part", "Refused", "Rewritten", "Room", "TooFew", "Totals", "check", "figures", "figures_into", "name_part",
-           "name_text", "rewrite", "rewrite_into"]
+__all__ = ["ENDS", "Ended", "Figures", "Part", "Ran", "Refused", "Rewritten", "Room", "Short", "TooFew", "Totals", "Unfit", "check", "figures",
+           "figures_into", "name_part", "name_text", "rewrite", "rewrite_into", "run", "run_into"]
 
 Bytes = Union[bytes, bytearray, memoryview]
 
@@ -49,6 +49,28 @@ class TooFew(Exception):
         return "fewer places than blocks"
 
 
+class Unfit(Exception):
+    """Store or answers do not read, a stored value is not of its name's type, or an answer that was taken does not fit (refusal 13)."""
+
+    number = 13
+
+    def __str__(self) -> str:
+        return "store or answers do not fit"
+
+
+class Short(Exception):
+    """Too few bytes were lent (refusal 14). events, store: the bytes that each needs."""
+
+    number = 14
+
+    def __init__(self, events: int, store: int) -> None:
+        super().__init__(events, store)
+        self.events, self.store = events, store
+
+    def __str__(self) -> str:
+        return "the events need %d bytes and the store %d" % (self.events, self.store)
+
+
 class Rewritten(NamedTuple):
     """A rewriting, and all saves that it added."""
     rewriting: bytes
@@ -75,12 +97,42 @@ class Part(NamedTuple):
     count: int
 
 
+class Ends(Tuple[str, ...]):
+    """How a run ended, by number."""
+
+
+ENDS = Ends(("end", "ret", "halt", "unset", "division", "limit"))
+
+
+class Ended(NamedTuple):
+    """Of a run: the bytes of its events and of its final store, its steps, how it ended (a number of ENDS), and the id of the division
+    that stopped it, else 0."""
+    events: int
+    store: int
+    steps: int
+    ended: int
+    id: int
+
+
+class Ran(NamedTuple):
+    """A run: its events and its final store as bytes, its steps, how it ended, and the id of the division that stopped it, else 0."""
+    events: bytes
+    store: bytes
+    steps: int
+    ended: str
+    id: int
+
+
 class _Rewritten(ctypes.Structure):
     _fields_ = [(field, ctypes.c_size_t) for field in ("count", "saves")]
 
 
 class _Named(ctypes.Structure):
     _fields_ = [(field, ctypes.c_size_t) for field in ("offset", "in_rewriting", "start", "count")]
+
+
+class _Ran(ctypes.Structure):
+    _fields_ = [(field, ctypes.c_uint64) for field in ("events", "store", "steps", "ended", "id")]
 
 
 _INPUT = ctypes.c_char_p, ctypes.c_size_t
@@ -100,6 +152,7 @@ def _entry(name: str, *types: Any) -> Any:
 _check = _entry("lvn_check", *_INPUT, ctypes.POINTER(ctypes.c_size_t))
 _rewrite = _entry("lvn_rewrite", *_INPUT, *_LENT, ctypes.POINTER(_Rewritten))
 _figures = _entry("lvn_figures", *_INPUT, *_LENT, ctypes.POINTER(_Rewritten))
+_run = _entry("lvn_run", *_INPUT, *_INPUT, *_INPUT, ctypes.c_uint64, *_LENT, *_LENT, ctypes.POINTER(_Ran))
 _name_text = _entry("lvn_name_text", *_INPUT, *_INPUT, ctypes.c_size_t, ctypes.POINTER(_Named))
 
 
@@ -196,3 +249,43 @@ def name_text(record: Bytes, rewriting: Bytes, index: int) -> bytes:
     """The text of a name of a record and its rewriting, by the name's index. Raises Refused as name_part does."""
     part = name_part(record, rewriting, index)
     return _bytes(rewriting if part.in_rewriting else record)[part.start:part.start + part.count]
+
+
+def _lent(buffer: Any) -> Tuple[Any, int]:
+    """A lent buffer of bytes and its length; of no bytes too a pointer that is not null."""
+    count = memoryview(buffer).nbytes
+    return (ctypes.c_uint8 * count).from_buffer(buffer) if count else ctypes.c_uint8(), count
+
+
+def run_into(record: Bytes, store: Bytes, answers: Bytes, limit: int, events: Any, left: Any) -> Ended:
+    """Runs a record from a starting store with a list of answers, both in the house form, for at most limit steps.
+
+    The events go to the start of one buffer, such as a bytearray, and the final store to that of another; the bytes beyond stay as they
+    were. Raises Refused, Unfit, or Short if a buffer is too short; then both stay as they were.
+    """
+    record, store, answers, answer = _bytes(record), _bytes(store), _bytes(answers), _Ran()
+    if not 0 <= operator.index(limit) < 2**64:
+        raise ValueError("a limit is a number of 64 bits")
+    told, room = _lent(events)
+    final, more = _lent(left)
+    number = _run(record, len(record), store, len(store), answers, len(answers), limit, ctypes.byref(told), room, ctypes.byref(final), more,
+                  ctypes.byref(answer))
+    del told, final
+    if number == Unfit.number:
+        raise Unfit
+    if number == Short.number:
+        raise Short(answer.events, answer.store)
+    if number:
+        raise Refused(number, answer.events)
+    return Ended(answer.events, answer.store, answer.steps, answer.ended, answer.id)
+
+
+def run(record: Bytes, store: Bytes, answers: Bytes, limit: int = 2**64 - 1) -> Ran:
+    """As run_into, with buffers that are long enough: the events and the final store themselves. Raises Refused or Unfit."""
+    events, left = bytearray(4096), bytearray(4357)  # no store is longer
+    try:
+        done = run_into(record, store, answers, limit, events, left)
+    except Short as short:
+        events = bytearray(short.events)
+        done = run_into(record, store, answers, limit, events, left)
+    return Ran(bytes(events[:done.events]), bytes(left[:done.store]), done.steps, ENDS[done.ended], done.id)

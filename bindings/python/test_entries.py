@@ -57,6 +57,7 @@ def refusal(function, *lent):
 C1 = (TOP / "examples/c1.rec").read_bytes()
 C1_OUT = bytes.fromhex(lines("vectors/worked.txt")[0][2])
 NONE = bytes.fromhex("00000006 01 00 0000 0000")  # no block
+NO_ITEMS = bytes.fromhex("00000001 01")  # a store of no names, or no answers
 
 
 class Answers(unittest.TestCase):
@@ -202,18 +203,59 @@ class Buffers(unittest.TestCase):
         output.append(0)
 
 
+class Runs(unittest.TestCase):
+    """The stored runs (crates/replay_run/stdin), and what they leave in lent buffers."""
+
+    def stored(self):
+        for record, store, answers, limit, number, *values, events, left in lines("crates/replay_run/stdin"):
+            parts = [b"" if part == "-" else bytes.fromhex(part) for part in (record, store, answers, events, left)]
+            yield parts[:3] + [int(limit)], int(number), [int(value) for value in values], *parts[3:]
+
+    def test_stored(self):
+        for lent, number, values, events, left in self.stored():
+            if number == 0:
+                self.assertEqual(lvn.run(*lent), (events, left, values[2], lvn.ENDS[values[3]], values[4]))
+            elif number == 13:
+                self.assertRaises(lvn.Unfit, lvn.run, *lent)
+            else:
+                self.assertEqual(refusal(lvn.run, *lent), (number, values[0]))
+
+    def test_buffers(self):
+        for lent, number, values, events, left in self.stored():
+            for room, more in ((len(events), len(left)), (len(events) + 9, len(left) + 9), (len(events) - 1, len(left)),
+                               (len(events), len(left) - 1), (0, 0)):
+                told, final = bytearray([GUARD] * max(room, 0)), bytearray([GUARD] * max(more, 0))
+                fits = number == 0 and len(told) >= len(events) and len(final) >= len(left)
+                try:
+                    self.assertEqual(lvn.run_into(*lent, told, final), tuple(values))
+                    self.assertTrue(fits)
+                except lvn.Short as short:
+                    self.assertEqual((number, fits, short.events, short.store), (0, False, len(events), len(left)))
+                except (lvn.Unfit, lvn.Refused) as refused:
+                    self.assertEqual(refused.number, number)
+                self.assertEqual(told, (events if fits else b"") + bytes([GUARD] * (len(told) - fits * len(events))))
+                self.assertEqual(final, (left if fits else b"") + bytes([GUARD] * (len(final) - fits * len(left))))
+
+    def test_limits(self):
+        self.assertRaises(ValueError, lvn.run, NONE, NO_ITEMS, NO_ITEMS, -1)
+        self.assertRaises(ValueError, lvn.run, NONE, NO_ITEMS, NO_ITEMS, 2**64)
+        self.assertEqual(lvn.run(NONE, NO_ITEMS, NO_ITEMS, 0), (b"", NO_ITEMS, 0, "end", 0))
+
+
 class Words(unittest.TestCase):
     def test_exceptions(self):
         self.assertEqual(str(lvn.Refused(5, 27)), "refused 5 at 27")
         self.assertEqual(str(lvn.Room(64)), "the output needs 64 bytes")
         self.assertEqual(str(lvn.TooFew()), "fewer places than blocks")
+        self.assertEqual(str(lvn.Unfit()), "store or answers do not fit")
+        self.assertEqual(str(lvn.Short(34, 14)), "the events need 34 bytes and the store 14")
         self.assertEqual(repr(lvn.Refused(5, 27)), "Refused(5, 27)")
 
     def test_readme(self):
         self.addCleanup(os.chdir, os.getcwd())
         os.chdir(TOP)
         failed, tried = doctest.testfile(str(Path(__file__).with_name("README.md")), False, optionflags=doctest.IGNORE_EXCEPTION_DETAIL)
-        self.assertEqual((failed, tried), (0, 6))
+        self.assertEqual((failed, tried), (0, 9))
 
     def test_every_entry_is_described(self):
         for name in lvn.__all__:

@@ -74,7 +74,67 @@ impl fmt::Display for Uncounted {
 
 impl error::Error for Uncounted {}
 
+/// How a run ended.
+#[derive(Clone, Copy, Debug, PartialEq, Eq)]
+pub enum Ending {
+    End,
+    Ret,
+    Halt,
+    Unset,
+    /// A division by zero, with its id.
+    Division(u64),
+    /// The limit is spent.
+    Limit,
+}
+
+/// What a run came to: the bytes of its events and of its final store, its
+/// steps, and how it ended.
+#[derive(Clone, Copy, Debug, PartialEq, Eq)]
+pub struct Ran {
+    pub events: usize,
+    pub store: usize,
+    pub steps: u64,
+    pub ending: Ending,
+}
+
+/// Why nothing was run.
+#[derive(Clone, Copy, Debug, PartialEq, Eq)]
+pub enum NotRun {
+    /// The record is refused.
+    Refused(Refused),
+    /// Store or answers do not read, a stored value is not of its name's type,
+    /// or an answer that was taken does not fit: refusal 13.
+    Unfit,
+    /// The events or the final store need more bytes than were lent, with the
+    /// bytes of each: refusal 14.
+    Room { events: usize, store: usize },
+}
+
+impl fmt::Display for NotRun {
+    fn fmt(&self, f: &mut fmt::Formatter) -> fmt::Result {
+        match self {
+            NotRun::Refused(refused) => refused.fmt(f),
+            NotRun::Unfit => write!(f, "store or answers do not fit"),
+            NotRun::Room { events, store } => {
+                write!(f, "the events need {events} bytes and the store {store}")
+            }
+        }
+    }
+}
+
+impl error::Error for NotRun {}
+
 mod raw {
+    #[repr(C)]
+    #[derive(Default)]
+    pub struct Ran {
+        pub events: u64,
+        pub store: u64,
+        pub steps: u64,
+        pub ended: u64,
+        pub id: u64,
+    }
+
     #[repr(C)]
     #[derive(Default)]
     pub struct Rewritten {
@@ -117,6 +177,21 @@ mod raw {
             rewriting_length: usize,
             index: usize,
             answer: *mut Named,
+        ) -> u8;
+
+        pub fn lvn_run(
+            record: *const u8,
+            record_length: usize,
+            store: *const u8,
+            store_length: usize,
+            answers: *const u8,
+            answers_length: usize,
+            limit: u64,
+            events: *mut u8,
+            events_length: usize,
+            final_store: *mut u8,
+            final_length: usize,
+            answer: *mut Ran,
         ) -> u8;
     }
 }
@@ -204,4 +279,55 @@ pub fn name_text<'a>(input: &'a [u8], rewriting: &'a [u8], index: usize) -> Resu
     }
     let record = if answer.in_rewriting == 0 { input } else { rewriting };
     Ok(&record[answer.from..answer.from + answer.count])
+}
+
+/// Runs the function of a record on the plain machine, from a starting store
+/// and with a list of answers, both in the house form, for at most `limit`
+/// steps. The events go to the start of `events`, the final store to that of
+/// `left`. Otherwise both stay as they were; the bytes beyond stay as they
+/// were in any case.
+pub fn run(
+    record: &[u8],
+    store: &[u8],
+    answers: &[u8],
+    limit: u64,
+    events: &mut [u8],
+    left: &mut [u8],
+) -> Result<Ran, NotRun> {
+    let mut answer = raw::Ran::default();
+    // SAFETY: as for rewrite.
+    let number = unsafe {
+        raw::lvn_run(
+            record.as_ptr(),
+            record.len(),
+            store.as_ptr(),
+            store.len(),
+            answers.as_ptr(),
+            answers.len(),
+            limit,
+            events.as_mut_ptr(),
+            events.len(),
+            left.as_mut_ptr(),
+            left.len(),
+            &mut answer,
+        )
+    };
+    let (events, store) = (answer.events as usize, answer.store as usize);
+    match number {
+        0 => Ok(Ran { events, store, steps: answer.steps, ending: ending(&answer) }),
+        13 => Err(NotRun::Unfit),
+        14 => Err(NotRun::Room { events, store }),
+        _ => Err(NotRun::Refused(Refused { number, offset: events })),
+    }
+}
+
+fn ending(answer: &raw::Ran) -> Ending {
+    match answer.ended {
+        0 => Ending::End,
+        1 => Ending::Ret,
+        2 => Ending::Halt,
+        3 => Ending::Unset,
+        4 => Ending::Division(answer.id),
+        _ => Ending::Limit,
+    }
 }

@@ -1,7 +1,7 @@
 //! The entries on the records of document 01, on outputs of each size and on each number of places.
 
-use lvn::{check, figures, figures_of, name_text, rewrite, rewriting};
-use lvn::{Counted, Refused, Uncounted, Unwritten, Written};
+use lvn::{check, figures, figures_of, name_text, rewrite, rewriting, run};
+use lvn::{Counted, Ending, NotRun, Ran, Refused, Uncounted, Unwritten, Written};
 
 fn bytes(hex: &str) -> Vec<u8> {
     let digits: Vec<u8> = hex.bytes().filter(|d| !d.is_ascii_whitespace()).collect();
@@ -165,4 +165,52 @@ fn several_threads_at_once() {
             });
         }
     });
+}
+
+/// a = call 3 (a); print a, with a an int; a is 5; the answers 6 and go on.
+fn call() -> (Vec<u8>, Vec<u8>, Vec<u8>) {
+    (
+        bytes("00000021 01 01 0001 000161 0001 0002 0000 00000001 14 0000 01 0000 0003 00000002 44 01 0000"),
+        bytes("0000000A 01 00 0000000000000005"),
+        bytes("0000000B 01 00 0000000000000006 FE"),
+    )
+}
+
+#[test]
+fn a_call_is_run() {
+    let (record, store, answers) = call();
+    let told = bytes("00000001 14 0003 01 00 0000000000000005 00000002 44 0000 01 00 0000000000000006");
+    let final_store = bytes("0000000A 01 00 0000000000000006");
+    let (mut events, mut left) = ([0xA5; 40], [0xA5; 20]);
+    let ran = run(&record, &store, &answers, 9, &mut events, &mut left);
+    assert_eq!(ran, Ok(Ran { events: 34, store: 14, steps: 2, ending: Ending::End }));
+    assert_eq!((&events[..34], &events[34..]), (&told[..], &[0xA5; 6][..]));
+    assert_eq!((&left[..14], &left[14..]), (&final_store[..], &[0xA5; 6][..]));
+}
+
+#[test]
+fn runs_end_at_the_limit_and_without_an_answer() {
+    let (record, store, answers) = call();
+    let (mut events, mut left) = ([0xA5; 40], [0xA5; 20]);
+    let spent = run(&record, &store, &answers, 1, &mut events, &mut left).unwrap();
+    assert_eq!((spent.steps, spent.ending), (1, Ending::Limit));
+    let none = run(&record, &store, &bytes("00000001 01"), u64::MAX, &mut events, &mut left).unwrap();
+    assert_eq!((none.steps, none.ending), (1, Ending::Halt));
+}
+
+#[test]
+fn what_is_not_run_writes_nothing() {
+    let (record, store, answers) = call();
+    for (room, more) in [(33, 14), (34, 13), (0, 0)] {
+        let (mut events, mut left) = (vec![0xA5; room], vec![0xA5; more]);
+        let short = run(&record, &store, &answers, 9, &mut events, &mut left);
+        assert_eq!(short, Err(NotRun::Room { events: 34, store: 14 }));
+        assert!(events.iter().chain(&left).all(|b| *b == 0xA5));
+    }
+    let (mut events, mut left) = ([0xA5; 40], [0xA5; 20]);
+    let unfit = run(&record, &store, &bytes("00000002 01 FE"), 9, &mut events, &mut left);
+    assert_eq!(unfit, Err(NotRun::Unfit));
+    let cut = run(&record[..9], &store, &answers, 9, &mut events, &mut left);
+    assert_eq!(cut, Err(NotRun::Refused(Refused { number: 1, offset: 0 })));
+    assert!(events.iter().chain(&left).all(|b| *b == 0xA5));
 }

@@ -16,12 +16,11 @@ use Rattle.machine.specs.Machine.{Event}
 use Rattle.running.specs.declared.Ending.{Ending}
 use Rattle.running.specs.declared.Ran.{Ran}
 use Rattle.running.specs.declared.Ran.the-variants.{Done, Unfit, Room}
-use Rattle.running.specs.Steps.{Config}
+use Rattle.running.specs.Steps.{Config, shifted}
 use Rattle.running.specs.House.{values-from, store-bytes, events-bytes}
 use Rattle.running.specs.Engine.{unfit, ran, running-for, with-inputs, outcome, ending-of, events-left, store-left, too-short, result, written, engine, engine-events, engine-store}
 use Rattle.running.proofs.Engine.{events-written, store-written}
 use Rattle.running.proofs.Cases.{given-outcome, engine-unfit}
-use Rattle.running.proofs.Shifted.{shifted}
 use Rattle.write_bytes.specs.Put.{put, Wrote}
 use Rattle.write_bytes.proofs.Put.{put-first}
 use Rattle.engine_cells.specs.Cells.{store-in}

@@ -11,11 +11,11 @@ use Rattle.record.specs.Record.{Instr, Block}
 use Rattle.record.specs.Write.{join}
 use Rattle.record.specs.Decode.{id-width}
 use Rattle.machine.specs.Machine.{Context, Event, Stop, Mach}
-use Rattle.running.specs.Steps.{over, Config, take-step, steps}
+use Rattle.running.specs.Steps.{over, Config, take-step, steps, shifted, shifted-mach}
 use Rattle.running.specs.House.{events-bytes}
 use Rattle.running.specs.Engine.{unfit-within}
 use Rattle.running.proofs.Steps.{over-stays}
-use Rattle.running.proofs.Shifted.{shifted, shifted-mach, shifted-shifted, steps-shifted}
+use Rattle.running.proofs.Shifted.{shifted-shifted, steps-shifted}
 use Rattle.write_bytes.specs.Put.{Wrote}
 use Rattle.engine_quiet.specs.Spot.{unfit-number, laid-out, told-types}
 use Rattle.engine_quiet.proofs.Bodies.{instrs-grow}

@@ -9,8 +9,7 @@ use Rattle.record.specs.Decode.{id-width, items}
 use Rattle.record.specs.Again.{instrs-from}
 use Rattle.machine.specs.Machine.{Answer, Event, ends, tick, happens}
 use Rattle.running.specs.Items.{answer-from, answer-end}
-use Rattle.running.specs.Steps.{moved}
-use Rattle.running.proofs.Shifted.{shifted}
+use Rattle.running.specs.Steps.{moved, shifted}
 use Rattle.engine_house.specs.Reads.{Sure}
 use Rattle.engine_quiet.specs.Spot.{stop-by, Standing}
 use Rattle.engine_quiet.proofs.Moved.{over-standing}

@@ -14,8 +14,7 @@ use Rattle.record.specs.Decode.{id-width, items, index-from, instr-end}
 use Rattle.machine.specs.Machine.{Store, Answer, halt, Event, goes, tick}
 use Rattle.running.specs.House.{halt-byte}
 use Rattle.running.specs.Items.{answer-from, answer-end}
-use Rattle.running.specs.Steps.{first-of, land, moved}
-use Rattle.running.proofs.Shifted.{shifted}
+use Rattle.running.specs.Steps.{first-of, land, moved, shifted}
 use Rattle.engine_cells.specs.Cells.{store-in}
 use Rattle.engine_house.specs.Reads.{Sure, end-by}
 use Rattle.engine_quiet.specs.declared.Spot.{Spot}

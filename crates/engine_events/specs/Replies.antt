@@ -13,9 +13,8 @@ use Rattle.record.specs.Reader.{num-at}
 use Rattle.record.specs.Decode.{id-width, instr-end}
 use Rattle.machine.specs.Machine.{Store, Answer, value, go-on, halt, Event, Mach, Step, tick, answered, acknowledged}
 use Rattle.running.specs.House.{go-on-byte, halt-byte, value-type}
-use Rattle.running.specs.Steps.{Config, moved}
+use Rattle.running.specs.Steps.{Config, moved, shifted}
 use Rattle.running.specs.Engine.{fits-value, fits-effect}
-use Rattle.running.proofs.Shifted.{shifted}
 use Rattle.read_fields.specs.Places.{places}
 use Rattle.engine_quiet.specs.Spot.{unfit-number, laid-out, body-at, code-at}
 use Rattle.engine_events.specs.declared.Turn.{Turn}

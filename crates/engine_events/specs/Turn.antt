@@ -14,11 +14,10 @@ use Rattle.record.specs.Reader.{num-at}
 use Rattle.record.specs.Decode.{id-width, names-count, items, instr-from, instr-end}
 use Rattle.record.specs.Again.{Passes}
 use Rattle.machine.specs.Machine.{Answer, Event, event-of}
-use Rattle.running.specs.Steps.{Config, take-step}
+use Rattle.running.specs.Steps.{Config, take-step, shifted}
 use Rattle.running.specs.House.{event-bytes, events-bytes}
 use Rattle.running.specs.Items.{answer-from, answer-end}
 use Rattle.running.specs.Engine.{fits-at}
-use Rattle.running.proofs.Shifted.{shifted}
 use Rattle.write_bytes.specs.Put.{put, Wrote}
 use Rattle.engine_cells.specs.declared.Size.{Size}
 use Rattle.engine_cells.specs.declared.Size.the-variants.{Is, Unset}

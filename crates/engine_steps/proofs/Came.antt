@@ -15,10 +15,10 @@ use Rattle.record.specs.Record.{Instr, Block}
 use Rattle.record.proofs.Rows.{one-more}
 use Rattle.record.proofs.Tests.{and-left, and-right}
 use Rattle.machine.specs.Machine.{Context, Event}
-use Rattle.running.specs.Steps.{Config, take-step, steps}
+use Rattle.running.specs.Steps.{Config, take-step, steps, shifted}
 use Rattle.running.specs.House.{events-bytes}
 use Rattle.running.specs.Engine.{fits-at, unfit-within}
-use Rattle.running.proofs.Shifted.{shifted, shifted-nothing, shifted-shifted, take-step-shifted, unfit-shifted}
+use Rattle.running.proofs.Shifted.{shifted-nothing, shifted-shifted, take-step-shifted, unfit-shifted}
 use Rattle.write_bytes.proofs.Wrote.{wrote-nothing}
 use Rattle.engine_quiet.specs.declared.Spot.{Spot}
 use Rattle.engine_quiet.specs.Spot.{unfit-number, laid-out, told-types, quiet, code-at, Moved}

@@ -6,10 +6,9 @@ use mathlib.Core.Path.{_≡_}
 use mathlib.Core.Logic.{_≢_, _⊎_}
 use Rattle.record.specs.Decode.{id-width}
 use Rattle.machine.specs.Machine.{Event}
-use Rattle.running.specs.Steps.{Config, steps}
+use Rattle.running.specs.Steps.{Config, steps, shifted}
 use Rattle.running.specs.House.{events-bytes}
 use Rattle.running.specs.Engine.{unfit-within}
-use Rattle.running.proofs.Shifted.{shifted}
 use Rattle.write_bytes.specs.Put.{Wrote}
 use Rattle.engine_quiet.specs.Spot.{unfit-number, laid-out, told-types, quiet, code-at}
 use Rattle.engine_events.specs.declared.Turn.{Turn}

@@ -10,10 +10,12 @@ use Rattle.numbering.specs.Rewrite.{rewrite-answer}
 use Rattle.numbering.specs.declared.Figured.{Figured}
 use Rattle.numbering.specs.Figures.{figures-answer}
 use Rattle.numbering.specs.NameText.{NameText, name-answer}
+use Rattle.running.specs.declared.Ran.{Ran}
+use Rattle.running.specs.Engine.{engine-answer}
 use Rattle.write_bytes.specs.Put.{put}
 use Rattle.name_text.specs.declared.Found.{Found}
 use Rattle.name_text.specs.Found.{found, within}
-use Rattle.exports.specs.Values.{value, values, place-values, lies-within}
+use Rattle.exports.specs.Values.{value, values, run-values, place-values, lies-within}
 
 -- ---- check, rewrite and figures
 -- what the answer b leaves, which is a
@@ -45,4 +47,15 @@ name-left f t input rewriting l r o b e w number-is offset-is flag-is = (
         ∙ ap place-values e),
     subst (λ (x : NameText). lies-within x input rewriting) e w,
   ),
+)
+
+-- ---- running
+-- what the answer a leaves, which is b: its number, and its values over what was lent for them
+pub run-as :
+    {a b : Ran} {r : ℕ} {vs : List ℕ} (l : List ℕ) →
+    a ≡ b → r ≡ engine-answer a .number → vs ≡ run-values (engine-answer a) →
+    (r ≡ engine-answer b .number) × (put l 0 vs ≡ put l 0 (run-values (engine-answer b)))
+run-as l e number-is values-are = (
+  number-is ∙ ap (λ (x : Ran). engine-answer x .number) e,
+  ap (put l 0) (values-are ∙ ap (λ (x : Ran). run-values (engine-answer x)) e),
 )

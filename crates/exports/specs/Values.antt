@@ -13,6 +13,10 @@ value a i = getD (a .values) i 0
 abbrev pub values : Returned → List ℕ
 values a = value a 0 ∷ value a 1 ∷ []
 
+-- of a run
+abbrev pub run-values : Returned → List ℕ
+run-values a = value a 0 ∷ value a 1 ∷ value a 2 ∷ value a 3 ∷ value a 4 ∷ []
+
 -- the offset of a refusal, and the part: 0 for the input or 1 for the rewriting, its start, its length
 abbrev pub place-values : NameText → List ℕ
 place-values t = value (name-answer (t .answer)) 0 ∷ cond (t .part .rewriting) 1 0 ∷ t .part .from ∷ t .part .count ∷ []

@@ -1,5 +1,6 @@
-// The library for other languages: check, rewrite, figures and name text, called as C functions. Each returns 0, or the number of its refusal, and
-// leaves the values that go with it in a lent place; include/lvn.h says the same for C. A slice is a pointer and a length there.
+// The library for other languages: check, rewrite, figures, name text and running, called as C functions. Each returns 0, or the number of
+// its refusal, and leaves the values that go with it in a lent place; include/lvn.h says the same for C. A slice is a pointer and a length
+// there.
 use numbering::Figured;
 use numbering::Named;
 use numbering::Rewritten;
@@ -10,8 +11,9 @@ ghost use Rattle.record.specs.Answer.{check-answer, checked};
 ghost use Rattle.numbering.specs.Rewrite.{rewrite-answer, rewrite, rewrite-leaves};
 ghost use Rattle.numbering.specs.Figures.{figures-answer, figures, figures-leaves};
 ghost use Rattle.numbering.specs.NameText.{name-answer, name-text};
+ghost use Rattle.running.specs.Engine.{engine, engine-events, engine-store, engine-answer};
 ghost use Rattle.write_bytes.specs.Put.{put};
-ghost use Rattle.exports.specs.Values.{value, values, place-values, lies-within};
+ghost use Rattle.exports.specs.Values.{value, values, run-values, place-values, lies-within};
 
 // Whether the bytes are a record of a function. offset: that of the fault; 0 if there is none.
 #[no_mangle]
@@ -138,4 +140,33 @@ pub extern "C" fn lvn_name_text(
     answer[2] = f.from;
     answer[3] = f.count;
     named_number(named)
+}
+
+// Runs a record from a starting store with a list of answers, for at most `limit` steps. answer: the bytes of the events and of the final
+// store, the steps, how it ended (0 the end, 1 ret, 2 halt, 3 unset, 4 a division by zero, 5 the limit is spent), and the division's id; or
+// the offset of the fault and 0; or five times 0 where store or answers do not read or fit; or the bytes needed of each and 0.
+#[no_mangle]
+pub extern "C" fn lvn_run(
+    record: &[u8],
+    store: &[u8],
+    answers: &[u8],
+    limit: u64,
+    events: &mut [u8],
+    final_store: &mut [u8],
+    answer: &mut [u64; 5],
+) -> u8
+    ensures { λ r. ⌜
+        (r ≡ engine-answer (engine (now («record» .entry)) (now (store .entry)) (now (answers .entry)) limit (now (events .entry)) (now («final_store» .entry))) .number) ×
+        ((now (answer .exit) ≡ put (now (answer .entry)) 0 (run-values (engine-answer (engine (now («record» .entry)) (now (store .entry)) (now (answers .entry)) limit (now (events .entry)) (now («final_store» .entry)))))) ×
+        ((now (events .exit) ≡ engine-events (now («record» .entry)) (now (store .entry)) (now (answers .entry)) limit (now (events .entry)) (now («final_store» .entry))) ×
+        (now («final_store» .exit) ≡ engine-store (now («record» .entry)) (now (store .entry)) (now (answers .entry)) limit (now (events .entry)) (now («final_store» .entry))))) ⌝ }
+{
+    let ran = engine::run(record, store, answers, limit, events, final_store);
+    let v = engine_answer::values(ran);
+    answer[0] = v.0;
+    answer[1] = v.1;
+    answer[2] = v.2;
+    answer[3] = v.3;
+    answer[4] = v.4;
+    engine_answer::number(ran)
 }

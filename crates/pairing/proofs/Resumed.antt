@@ -19,10 +19,9 @@ use Rattle.record.proofs.Tests.{and-left, and-right}
 use Rattle.running.specs.declared.Ending.{Ending}
 use Rattle.running.specs.declared.Ran.the-variants.{Done, Unfit}
 use Rattle.machine.specs.Machine.{Store, Context, plain-machine, Answer, Event, Mach}
-use Rattle.running.specs.Steps.{Config, land, steps, start}
+use Rattle.running.specs.Steps.{Config, land, steps, start, shifted}
 use Rattle.running.specs.House.{of-types, holding, values-from, store-bytes, answers-bytes, event-bytes, events-bytes}
 use Rattle.running.specs.Engine.{unfit-within, Outcome, refused, unfit, ran, starting, running-for, lets-pass, with-inputs, outcome, ending-of, events-left, store-left, too-short, result, written, engine, engine-events, engine-store}
-use Rattle.running.proofs.Shifted.{shifted}
 use Rattle.running.proofs.Resumed.{resumed, unfit-resumed}
 use Rattle.running.proofs.Answers.{Answerable, answers-back}
 use Rattle.running.proofs.Given.{read-answerable, left-told}

@@ -18,12 +18,11 @@ use Rattle.machine.specs.Machine.{Store, plain-machine, Answer, Stop, at-halt, 
 use Rattle.running.specs.declared.Ending.{Ending}
 use Rattle.running.specs.declared.Ending.the-variants.{Limit}
 use Rattle.running.specs.declared.Ran.the-variants.{Done, Refused, Unfit, Room}
-use Rattle.running.specs.Steps.{over, Config, land, steps, start, config-of}
+use Rattle.running.specs.Steps.{over, Config, land, steps, start, config-of, shifted}
 use Rattle.running.specs.House.{holding, events-bytes}
 use Rattle.running.specs.Engine.{lets-pass, ending-of, too-short, engine, engine-events, engine-store}
 use Rattle.running.proofs.Steps.{steps-steps, run-reaches}
 use Rattle.running.proofs.Limit.{Ends, steps-reach}
-use Rattle.running.proofs.Shifted.{shifted}
 use Rattle.running.proofs.Resumed.{resumed}
 use Rattle.running.proofs.Engine.{Given, IsMachine, engine-is-machine, limit-said, limit-steps}
 use Rattle.running.proofs.Lent.{not-done-untouched, beyond-untouched, lent-lengths}

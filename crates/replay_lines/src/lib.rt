@@ -89,7 +89,15 @@ pub fn skip(text: &[u8], at: usize, c: u8) -> usize {
     at
 }
 
-// The decimal number at `at`, or behind a space there; its last nine digits where it is longer.
+// Ten times x and a digit more, in 64 bits.
+fn with_digit(x: u64, digit: u64) -> u64 {
+    let two = std::num::wrapping_add_u64(x, x);
+    let four = std::num::wrapping_add_u64(two, two);
+    let eight = std::num::wrapping_add_u64(four, four);
+    std::num::wrapping_add_u64(std::num::wrapping_add_u64(eight, two), digit)
+}
+
+// The decimal number at `at`, or behind a space there; its last 64 bits where it has more.
 pub fn number(text: &[u8], at: usize) -> Decimal {
     let mut p = skip(text, at, b' ');
     let mut value = 0;
@@ -101,7 +109,7 @@ pub fn number(text: &[u8], at: usize) -> Decimal {
         if c > 57 {
             return Decimal { next: p, value };
         }
-        value = (value * 10 + ((c - 48) as u64)) % 1000000000;
+        value = with_digit(value, (c - 48) as u64);
         p += 1;
     }
     Decimal { next: p, value }

@@ -7,10 +7,10 @@ use mathlib.Core.List.{List, [], _++_, append-nil}
 use native.Mathlib.Omega.{arith}
 use Rattle.record.specs.Record.{Instr, Block}
 use Rattle.machine.specs.Machine.{Store, Context, Answer}
-use Rattle.running.specs.Steps.{Config, land, take-step, steps, start}
+use Rattle.running.specs.Steps.{Config, land, take-step, steps, start, shifted}
 use Rattle.running.specs.Engine.{fits-at, unfit-within}
 use Rattle.running.proofs.Steps.{steps-steps}
-use Rattle.running.proofs.Shifted.{shifted, steps-shifted, unfit-shifted}
+use Rattle.running.proofs.Shifted.{steps-shifted, unfit-shifted}
 
 -- what stands as a start does is a start, behind its events and steps
 pub start-shifted :

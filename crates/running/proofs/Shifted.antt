@@ -10,15 +10,8 @@ use Rattle.arith.specs.Operation.{Result, ok, stops, unset, eval}
 use Rattle.record.specs.Record.{Instr, Block}
 use Rattle.record.specs.Form.{Form, pure, new, effect, return, nop, jump, branch, form}
 use Rattle.machine.specs.Machine.{Context, Answer, value, go-on, halt, Event, at-ret, at-halt, Mach, Step, goes, jumps, ends, tick, assign, happens, read-all, event-of, finish, take-value, answered, perform, ask, acknowledged, tell, leave, choose, bool-in, act, step}
-use Rattle.running.specs.Steps.{Stand, facing, over, Config, moved, step-from, take-step, steps}
+use Rattle.running.specs.Steps.{Stand, facing, over, Config, moved, step-from, take-step, steps, shifted-mach, shifted}
 use Rattle.running.specs.Engine.{fits-form, fits, fits-at, unfit-within}
-
--- es in front of the events, and k steps counted before
-abbrev pub shifted-mach : List Event → ℕ → Mach → Mach
-shifted-mach es k m = record { store = m .store; answers = m .answers; events = es ++ m .events; steps = k + m .steps }
-
-abbrev pub shifted : List Event → ℕ → Config → Config
-shifted es k c = record { stand = c .stand; mach = shifted-mach es k (c .mach) }
 
 pub shifted-nothing : (c : Config) → shifted [] 0 c ≡ c
 shifted-nothing c =

@@ -1,11 +1,11 @@
 -- The plain machine by single steps, "with a step limit": the same `step`, counted one by one where a run counts blocks.
-use Prim.Native.Nat.{ℕ, zero, suc}
+use Prim.Native.Nat.{ℕ, zero, suc, _+_}
 use mathlib.Core.Bool.{Bool, true, false}
 use mathlib.Core.Option.{Option, none, some}
-use mathlib.Core.List.{List, [], _∷_}
+use mathlib.Core.List.{List, [], _∷_, _++_}
 use lib.ListN.{drop}
 use Rattle.record.specs.Record.{Instr, Block}
-use Rattle.machine.specs.Machine.{Store, Context, Answer, Stop, at-end, Mach, Step, goes, jumps, ends, step, Place, before, stopped, Run}
+use Rattle.machine.specs.Machine.{Store, Context, Answer, Event, Stop, at-end, Mach, Step, goes, jumps, ends, step, Place, before, stopped, Run}
 
 -- before an instruction of a block, with those behind it there; or over, by a stop
 pub data Stand : Type 0 where
@@ -74,3 +74,10 @@ config-of bs r = record { stand = stand-at bs (r .place); mach = r .mach }
 abbrev pub stop-at : Place → Option Stop
 stop-at (before b) = none
 stop-at (stopped s b p) = some s
+
+-- ---- a run that goes on behind others: es in front of its events, and k steps counted before
+abbrev pub shifted-mach : List Event → ℕ → Mach → Mach
+shifted-mach es k m = record { store = m .store; answers = m .answers; events = es ++ m .events; steps = k + m .steps }
+
+abbrev pub shifted : List Event → ℕ → Config → Config
+shifted es k c = record { stand = c .stand; mach = shifted-mach es k (c .mach) }

@@ -1,76 +1,15 @@
 //! Times check, rewrite and figures, the altered Rust's `lvn`, alone and with decoding and encoding, and the hand port where
-//! it is there, on the same records in one run.
+//! it is there, on the same records in one run; then the engine.
 
+use crate::clock::{middle, middles, now};
 use crate::cut;
 use crate::handport::{hand_port, HandPort};
 use crate::one::{self, hex, Lent};
 use crate::rows::{rows, Row};
+use crate::timed_runs;
 use lvn::{Unwritten, Written};
 use oracle::{reader, writer, Rust};
 use std::hint::black_box;
-use std::time::{Duration, Instant};
-
-#[repr(C)]
-struct Timespec {
-    seconds: i64,
-    nanoseconds: i64,
-}
-
-extern "C" {
-    fn clock_gettime(clock: i32, time: *mut Timespec) -> i32;
-}
-
-/// Nanoseconds that this thread has run, so that other work on the machine counts little.
-fn now() -> i64 {
-    let mut time = Timespec { seconds: 0, nanoseconds: 0 };
-    // SAFETY: the C library writes one timespec; 3 is CLOCK_THREAD_CPUTIME_ID on Linux.
-    unsafe { clock_gettime(3, &mut time) };
-    time.seconds * 1_000_000_000 + time.nanoseconds
-}
-
-/// A turn with so many bytes more on the stack.
-#[inline(never)]
-fn deeper<const BYTES: usize>(turn: &mut impl FnMut() -> i64) -> i64 {
-    black_box(&[0u8; BYTES]);
-    turn()
-}
-
-/// The turn of a round, at another place of the stack in each of four: by where its tables lie a call takes some hundredths more or less.
-fn placed(round: usize, turn: &mut impl FnMut() -> i64) -> i64 {
-    match round % 4 {
-        0 => deeper::<16>(turn),
-        1 => deeper::<32>(turn),
-        2 => deeper::<48>(turn),
-        _ => deeper::<64>(turn),
-    }
-}
-
-/// The middle time: one round in which the clock reads short changes nothing.
-fn middle_of(mut all: Vec<i64>) -> f64 {
-    all.sort_unstable();
-    all[all.len() / 2] as f64
-}
-
-/// The middle time of a turn, over so many seconds.
-fn middle(seconds: u64, mut turn: impl FnMut() -> i64) -> f64 {
-    let start = Instant::now();
-    let mut all = vec![turn()];
-    while start.elapsed() < Duration::from_secs(seconds) {
-        all.push(placed(all.len(), &mut turn));
-    }
-    middle_of(all)
-}
-
-/// The same of two that alternate, so that whatever slows the machine for a while slows both.
-fn middles(seconds: u64, mut one: impl FnMut() -> i64, mut other: impl FnMut() -> i64) -> (f64, f64) {
-    let start = Instant::now();
-    let (mut ones, mut others) = (vec![one()], vec![other()]);
-    while start.elapsed() < Duration::from_secs(2 * seconds) {
-        ones.push(placed(ones.len(), &mut one));
-        others.push(placed(others.len(), &mut other));
-    }
-    (middle_of(ones), middle_of(others))
-}
 
 /// How often a row is repeated between two looks at the clock.
 fn repeats(row: &Row) -> usize {
@@ -348,7 +287,7 @@ pub fn run(seed: u64, seconds: u64) -> bool {
         last.1 / first.1
     );
     print_figures(&figures);
-    true
+    timed_runs::run(seconds)
 }
 
 /// What figures takes beside rewrite with a long output, where most; and the rows in which it takes longer, by a hundredth at least.

@@ -1,34 +1,47 @@
 //! Holds the static library to the Rust, altered as document 02's Point 2 says,
-//! and to a second reading of document 01, on generated records; and times it
-//! beside the Rust and the hand port.
+//! to a second reading of document 01 and, for runs, to a plain interpreter, on
+//! generated records; and times it beside the Rust, the hand port and that
+//! interpreter.
 
 mod bench;
+mod clock;
 mod compare;
 mod cut;
 mod damage;
+mod engine;
 mod figures;
 mod function;
 mod generate;
 mod guarded;
 mod handport;
+mod house;
+mod interpret;
 mod number;
 mod one;
 mod phis;
 mod profiles;
 mod rng;
 mod rows;
+mod runs;
 mod second;
 mod small;
+mod timed_runs;
 mod unaltered;
+mod worlds;
 
 use std::io::{self, Read};
 use std::{env, panic, process::ExitCode};
 
 const USAGE: &str = "usage:
   scale compare [--seed S] [--count N | --seconds T]   compares generated records: N functions, or T seconds (60)
+  scale runs [--seed S] [--count N]                    compares N runs (200000) of generated functions, as compare does at its end
   scale one                                            compares the records on standard input, one in hex per line
   scale bench [--seed S] [--seconds T]                 times rewrite beside others: T seconds (1) for each figure
+  scale bench-runs [--seconds T]                       times runs alone, as bench does at its end
 S is 1 if not given. The status is 0 if all is the same, 1 if something differs, 2 for a wrong argument or input.";
+
+/// How many runs are compared where no count is given.
+const RUNS: u64 = 200_000;
 
 /// What was given wrong.
 enum Wrong {
@@ -101,7 +114,12 @@ fn run(words: &[String]) -> Result<bool, Wrong> {
         "compare" => {
             let a = arguments(rest, &["--seed", "--count", "--seconds"])?;
             let seconds = a.seconds.unwrap_or(60);
-            Ok(compare::run(&compare::Options { seed: a.seed, count: a.count, seconds }))
+            let same = compare::run(&compare::Options { seed: a.seed, count: a.count, seconds });
+            Ok(runs::run(a.seed, RUNS) && same)
+        }
+        "runs" => {
+            let a = arguments(rest, &["--seed", "--count"])?;
+            Ok(runs::run(a.seed, a.count.unwrap_or(RUNS)))
         }
         "one" => {
             arguments(rest, &[])?;
@@ -110,6 +128,10 @@ fn run(words: &[String]) -> Result<bool, Wrong> {
         "bench" => {
             let a = arguments(rest, &["--seed", "--seconds"])?;
             Ok(bench::run(a.seed, a.seconds.unwrap_or(1)))
+        }
+        "bench-runs" => {
+            let a = arguments(rest, &["--seconds"])?;
+            Ok(timed_runs::run(a.seconds.unwrap_or(1)))
         }
         other => Err(Wrong::Argument(format!("unknown command {other}"))),
     }

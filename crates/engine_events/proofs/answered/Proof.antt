@@ -24,7 +24,9 @@ returns : tie.Need-returns
 returns c =
     let z = c .before .before .before .before .before .before .before .before in
     let a = z .args in
-    subst (Answered (a .s .now) (a .types .now) (a .starts .now) (a .list .now) (a .cells .now) (a .cells .now) (a .event) (a .t)) (sym (c .ended .ensures)) (answered-none (a .s .now) (a .types .now) (a .starts .now) (a .list .now) (a .cells .now) (a .event) (a .t) (z .pre .1 .0) (z .pre .1 .1 .0) (z .pre .1 .1 .1 .1 .1 .0) (z .pre .1 .1 .1 .1 .1 .1) (c .before .if1 .taken))
+    subst (Answered (a .s .now) (a .types .now) (a .starts .now) (a .list .now) (a .cells .now) (a .cells .now) (a .event) (a .t))
+    (sym (c .ended .ensures)) (answered-none (a .s .now) (a .types .now) (a .starts .now) (a .list .now) (a .cells .now) (a .event) (a .t)
+    (z .pre .1 .0) (z .pre .1 .1 .0) (z .pre .1 .1 .1 .1 .1 .0) (z .pre .1 .1 .1 .1 .1 .1) (c .before .if1 .taken))
 
 returns-2 : tie.Need-returns-2
 returns-2 c =
@@ -35,7 +37,9 @@ returns-2 c =
     let kind = w .before .before .byte-or in
     let e = c .ended2 .ensures ∙ ap (λ (u : Turn). over-turn 2 (a .event) (u .answer) (u .answers) u) (w .taken .ensures) in
     subst (Answered (a .s .now) (a .types .now) (a .starts .now) (a .list .now) (a .cells .now) (a .cells .now) (a .event) (a .t)) (sym e)
-    (answered-halt (a .s .now) (a .types .now) (a .starts .now) (a .list .now) (a .cells .now) (a .event) (a .t) (z .pre .1 .0) (z .pre .1 .1 .0) (z .pre .1 .1 .1 .1 .1 .0) (z .pre .1 .1 .1 .1 .1 .1) (omega (arith, w .before .before .before .if1 .left)) (kind .result) (end .result) (kind .ensures .0) (end .ensures .0) (end .ensures .1)
+    (answered-halt (a .s .now) (a .types .now) (a .starts .now) (a .list .now) (a .cells .now) (a .event) (a .t) (z .pre .1 .0)
+    (z .pre .1 .1 .0) (z .pre .1 .1 .1 .1 .1 .0) (z .pre .1 .1 .1 .1 .1 .1) (omega (arith, w .before .before .before .if1 .left))
+    (kind .result) (end .result) (kind .ensures .0) (end .ensures .0) (end .ensures .1)
     (c .before .if2 .taken))
 
 add-takes : tie.Need-add-takes
@@ -61,7 +65,8 @@ takes-requires c κs =
     let n = near z in (
       omega (arith, n),
       (
-        dest-cell (z .pre .1 .1 .1 .1 .1 .0) (a .w) (z .pre .1 .1 .1 .1 .0) (code .result) (a .cells .now) (code .ensures .0) (z .pre .0 .names) (z .pre .1 .1 .1 .0),
+        dest-cell (z .pre .1 .1 .1 .1 .1 .0) (a .w) (z .pre .1 .1 .1 .1 .0) (code .result) (a .cells .now) (code .ensures .0)
+            (z .pre .0 .names) (z .pre .1 .1 .1 .0),
         (
           omega (arith, z .pre .1 .0 .answers, some-left),
           (
@@ -83,8 +88,11 @@ returns-3 c =
     let code = v .before .before .byte-or2 in
     let e = c .ended3 .ensures ∙ ap (λ (u : Turn). over-turn unfit-number (a .event) (u .answer) (u .answers) u) (w .taken .ensures) in
     subst (Answered (a .s .now) (a .types .now) (a .starts .now) (a .list .now) (a .cells .now) _ (a .event) (a .t)) (sym e)
-    (answered-unfit (a .s .now) (a .types .now) (a .starts .now) (a .list .now) (a .cells .now) (a .event) (a .t) (z .pre .1 .0) (z .pre .1 .1 .0) (z .pre .1 .1 .1 .1 .1 .0) (z .pre .1 .1 .1 .1 .1 .1) (omega (arith, w .before .before .before .if1 .left)) (kind .result) (end .result) (kind .ensures .0) (end .ensures .0) (end .ensures .1)
-    (a .w) (code .result) (z .pre .1 .1 .1 .1 .0) (code .ensures .0) (v .takes .result) (v .takes .ensures .0) _ (not-true (v .takes .result) (c .before .if3 .taken)))
+    (answered-unfit (a .s .now) (a .types .now) (a .starts .now) (a .list .now) (a .cells .now) (a .event) (a .t) (z .pre .1 .0)
+    (z .pre .1 .1 .0) (z .pre .1 .1 .1 .1 .1 .0) (z .pre .1 .1 .1 .1 .1 .1) (omega (arith, w .before .before .before .if1 .left))
+    (kind .result) (end .result) (kind .ensures .0) (end .ensures .0) (end .ensures .1)
+    (a .w) (code .result) (z .pre .1 .1 .1 .1 .0) (code .ensures .0) (v .takes .result) (v .takes .ensures .0) _
+    (not-true (v .takes .result) (c .before .if3 .taken)))
 
 instr-end-requires : tie.Need-instr-end-requires
 instr-end-requires c κs =
@@ -93,8 +101,17 @@ instr-end-requires c κs =
 onward-requires : tie.Need-onward-requires
 onward-requires c κs =
     let z = c .before .before .before .before .before .before .before .before .before .before .before .before .before .before .before .before .before .before in
-    let a = z .args in
-    (z .pre .0, (z .pre .1 .0 .standing, (z .pre .1 .1 .0, c .instr-end .ensures .0 ∙ ap (λ (w : ℕ). instr-end w (a .s .now) (a .t .spot .at)) (z .pre .1 .1 .1 .1 .0))))
+    let a = z .args in (
+      z .pre .0,
+      (
+        z .pre .1 .0 .standing,
+        (
+          z .pre .1 .1 .0,
+          c .instr-end .ensures .0 ∙ ap
+              (λ (w : ℕ). instr-end w (a .s .now) (a .t .spot .at)) (z .pre .1 .1 .1 .1 .0),
+        ),
+      ),
+    )
 
 returns-4 : tie.Need-returns-4
 returns-4 c =
@@ -108,9 +125,12 @@ returns-4 c =
     let next = c .before .instr-end in
     let f = not-false (v .takes .result) (c .before .before .if3 .left) in
     subst
-    (λ (u : Turn). Answered (a .s .now) (a .types .now) (a .starts .now) (a .list .now) (a .cells .now) (v .takes .last .1 .1 .1 .1 .1 .1 .0) (a .event) (a .t) (record { spot = c .onward .result; more = a .t .more; answer = u .answer; answers = u .answers; event = a .event; tells = a .t .tells }))
+    (λ (u : Turn). Answered (a .s .now) (a .types .now) (a .starts .now) (a .list .now) (a .cells .now)
+    (v .takes .last .1 .1 .1 .1 .1 .1 .0) (a .event) (a .t) (record { spot = c .onward .result; more = a .t .more; answer = u .answer; answers = u .answers; event = a .event; tells = a .t .tells }))
     (sym (w .taken .ensures))
-    (answered-goes (a .s .now) (a .types .now) (a .starts .now) (a .list .now) (a .cells .now) (a .event) (a .t) (z .pre .1 .0) (z .pre .1 .1 .0) (z .pre .1 .1 .1 .1 .1 .0) (z .pre .1 .1 .1 .1 .1 .1) (omega (arith, w .before .before .before .if1 .left)) (kind .result) (end .result) (kind .ensures .0) (end .ensures .0) (end .ensures .1)
+    (answered-goes (a .s .now) (a .types .now) (a .starts .now) (a .list .now) (a .cells .now) (a .event) (a .t) (z .pre .1 .0)
+    (z .pre .1 .1 .0) (z .pre .1 .1 .1 .1 .1 .0) (z .pre .1 .1 .1 .1 .1 .1) (omega (arith, w .before .before .before .if1 .left))
+    (kind .result) (end .result) (kind .ensures .0) (end .ensures .0) (end .ensures .1)
     (a .w) (code .result) (z .pre .1 .1 .1 .1 .0) (code .ensures .0) (v .takes .result) (v .takes .ensures .0)
     _ (c .onward .result) (next .result) f (v .before .before .before .if2 .left)
     (next .ensures .0 ∙ ap (λ (x : ℕ). instr-end x (a .s .now) (a .t .spot .at)) (z .pre .1 .1 .1 .1 .0)) (v .takes .ensures .1) (c .onward .ensures))

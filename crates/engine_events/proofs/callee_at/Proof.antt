@@ -8,7 +8,8 @@ use Rattle.engine_events.proofs.callee_at.Tie as tie
 
 returns : tie.Need-returns
 returns c =
-    c .be16 .ensures .0 ∙ sym (ap (λ (b : Bool). cond b (num-at (c .before .before .before .args .s .now) (c .before .before .before .args .end) 2) 0) (c .before .if1 .taken))
+    c .be16 .ensures .0 ∙ sym (ap (λ (b : Bool). cond b (num-at (c .before .before .before .args .s .now)
+    (c .before .before .before .args .end) 2) 0) (c .before .if1 .taken))
 
 returns-2 : tie.Need-returns-2
 returns-2 c =

@@ -49,9 +49,22 @@ tell-event-requires c κs =
     let code = c .before .before .before .byte-or in
     let z = c .before .before .before .before .before .before .before .before .before .before in
     let a = z .args in
-    let row = row-by (a .s .now) (a .t .spot .at) (a .w) (code .result) (c .before .before .past-if .result) (z .pre .1 .1 .1 .1 .0) (code .ensures .0)
-    (c .before .before .past-if .ensures .0) in
-    (loud z, (z .pre .1 .1 .1 .1 .0, (row, (near-row (loud z) (a .w) (z .pre .1 .1 .1 .1 .0) (c .before .before .past-if .result) row (z .good .0 .1), omega (arith, z .pre .1 .0 .events)))))
+    let row = row-by (a .s .now) (a .t .spot .at) (a .w) (code .result) (c .before .before .past-if .result) (z .pre .1 .1 .1 .1 .0)
+    (code .ensures .0)
+    (c .before .before .past-if .ensures .0) in (
+      loud z,
+      (
+        z .pre .1 .1 .1 .1 .0,
+        (
+          row,
+          (
+            near-row (loud z) (a .w) (z .pre .1 .1 .1 .1 .0) (c .before .before .past-if .result) row
+                (z .good .0 .1),
+            omega (arith, z .pre .1 .0 .events),
+          ),
+        ),
+      ),
+    )
 
 returns : tie.Need-returns
 returns c =
@@ -64,7 +77,9 @@ returns c =
     (told-at .event .given .1) (tell .tell-event .ensures) in
     subst (Stepped (a .s .now) (a .types .now) (a .starts .now) (a .list .now) (a .cells .now) (a .cells .now) (a .out .now) _ (a .t))
     (sym (c .ended .ensures))
-    (step-ret (a .s .now) (a .types .now) (a .starts .now) (a .list .now) (a .cells .now) (a .out .now) (a .t) (z .pre .1 .0) (z .pre .1 .1 .0) (loud z) _ (told-at .event .given .0 .0) told (sym (code .ensures .0 ∙ ap (λ (w : ℕ). num-at (a .s .now) (a .t .spot .at + w) 1) (z .pre .1 .1 .1 .1 .0)) ∙ c .before .if1 .taken))
+    (step-ret (a .s .now) (a .types .now) (a .starts .now) (a .list .now) (a .cells .now) (a .out .now) (a .t) (z .pre .1 .0)
+    (z .pre .1 .1 .0) (loud z) _ (told-at .event .given .0 .0) told
+    (sym (code .ensures .0 ∙ ap (λ (w : ℕ). num-at (a .s .now) (a .t .spot .at + w) 1) (z .pre .1 .1 .1 .1 .0)) ∙ c .before .if1 .taken))
 
 answered-requires : tie.Need-answered-requires
 answered-requires c κs =
@@ -73,8 +88,26 @@ answered-requires c κs =
     let z = c .before .before .before .before .before .before .before .before .before .before .before .before .before .before .before .before .before .before in
     let a = z .args in
     let told = told-is (a .s .now) (a .t .spot .at) (a .out .now) _ (a .t .event) (told-at .event .given .0 .0) (tell .tell-event .result) (values z)
-    (told-at .event .given .1) (tell .tell-event .ensures) in
-    (z .pre .0, (z .pre .1 .0, (z .pre .1 .1 .0, (z .pre .1 .1 .1 .0, (z .pre .1 .1 .1 .1 .0, (loud z, room-left (a .s .now) (a .types .now) (a .starts .now) (a .list .now) (a .cells .now) (a .out .now) (a .t) (z .pre .1 .0) (z .pre .1 .1 .0) (loud z) _ (told-at .event .given .0 .0) told))))))
+    (told-at .event .given .1) (tell .tell-event .ensures) in (
+      z .pre .0,
+      (
+        z .pre .1 .0,
+        (
+          z .pre .1 .1 .0,
+          (
+            z .pre .1 .1 .1 .0,
+            (
+              z .pre .1 .1 .1 .1 .0,
+              (
+                loud z,
+                room-left (a .s .now) (a .types .now) (a .starts .now) (a .list .now) (a .cells .now) (a .out .now)
+                    (a .t) (z .pre .1 .0) (z .pre .1 .1 .0) (loud z) _ (told-at .event .given .0 .0) told,
+              ),
+            ),
+          ),
+        ),
+      ),
+    )
 
 returns-2 : tie.Need-returns-2
 returns-2 c =
@@ -85,8 +118,10 @@ returns-2 c =
     let a = z .args in
     let told = told-is (a .s .now) (a .t .spot .at) (a .out .now) _ (a .t .event) (told-at .event .given .0 .0) (tell .tell-event .result) (values z)
     (told-at .event .given .1) (tell .tell-event .ensures) in
-    step-told (a .s .now) (a .types .now) (a .starts .now) (a .list .now) (a .cells .now) (a .out .now) (a .t) (z .pre .1 .0) (z .pre .1 .1 .0) (loud z) _ (told-at .event .given .0 .0) told _ (c .before .before .answered .result)
-    (λ e. c .before .before .before .before .if1 .left ((code .ensures .0 ∙ ap (λ (w : ℕ). num-at (a .s .now) (a .t .spot .at + w) 1) (z .pre .1 .1 .1 .1 .0)) ∙ e)) (c .before .before .answered .ensures)
+    step-told (a .s .now) (a .types .now) (a .starts .now) (a .list .now) (a .cells .now) (a .out .now) (a .t) (z .pre .1 .0)
+    (z .pre .1 .1 .0) (loud z) _ (told-at .event .given .0 .0) told _ (c .before .before .answered .result)
+    (λ e. c .before .before .before .before .if1 .left ((code .ensures .0 ∙ ap (λ (w : ℕ). num-at (a .s .now) (a .t .spot .at + w) 1)
+    (z .pre .1 .1 .1 .1 .0)) ∙ e)) (c .before .before .answered .ensures)
 
 returns-3 : tie.Need-returns-3
 returns-3 c =
@@ -95,11 +130,13 @@ returns-3 c =
     let a = z .args in
     let none-read = told-not (a .s .now) (a .t .spot .at) (a .out .now) _ (a .t .event) (tell .tell-event .result) (values z)
     (c .before .enum-told .given .1) (tell .tell-event .ensures) in
-    subst (λ (m : List ℕ). Stepped (a .s .now) (a .types .now) (a .starts .now) (a .list .now) (a .cells .now) (a .cells .now) (a .out .now) m (a .t) (c .ended2 .result))
+    subst (λ (m : List ℕ). Stepped (a .s .now) (a .types .now) (a .starts .now) (a .list .now) (a .cells .now) (a .cells .now)
+    (a .out .now) m (a .t) (c .ended2 .result))
     (sym (none-read .1))
     (subst (Stepped (a .s .now) (a .types .now) (a .starts .now) (a .list .now) (a .cells .now) (a .cells .now) (a .out .now) (a .out .now) (a .t))
     (sym (c .ended2 .ensures))
-    (step-unset (a .s .now) (a .types .now) (a .starts .now) (a .list .now) (a .cells .now) (a .out .now) (a .t) (z .pre .1 .0) (z .pre .1 .1 .0) (loud z) (none-read .0)))
+    (step-unset (a .s .now) (a .types .now) (a .starts .now) (a .list .now) (a .cells .now) (a .out .now) (a .t) (z .pre .1 .0)
+    (z .pre .1 .1 .0) (loud z) (none-read .0)))
 
 pub event-step-spec : {M : Type 1} → statement M
 event-step-spec =

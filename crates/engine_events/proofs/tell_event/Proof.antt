@@ -17,7 +17,13 @@ add-t19 : tie.Need-add-t19
 add-t19 c =
     let size = c .before .before .before .before in
     let z = size .before .before .before .before .before in
-    omega (arith, size .row-size .ensures .1 (c .before .before .n .given .0 .0) (c .before .before .n .given .1), size .before .byte-or .ensures .0, z .pre .1 .1 .1)
+    omega (
+      arith,
+      size .row-size .ensures .1 (c .before .before .n .given .0 .0)
+          (c .before .before .n .given .1),
+      size .before .byte-or .ensures .0,
+      z .pre .1 .1 .1,
+    )
 
 same-length : tie.Need-same-length
 same-length c =
@@ -32,7 +38,8 @@ returns c =
     let read = read-all (store-in (a .cells .now)) in
     let put : EventPut (a .s .now) (a .at) (a .out .now) (c .if1 .out) (a .to) (read (args-at (a .s .now) (a .at))) =
     ⊎-elim
-    (λ v. subst (λ (m : List ℕ). EventPut (a .s .now) (a .at) (a .out .now) m (a .to) (read (args-at (a .s .now) (a .at)))) (sym (v .5)) (v .2 .ensures))
+    (λ v. subst (λ (m : List ℕ). EventPut (a .s .now) (a .at) (a .out .now) m (a .to) (read (args-at (a .s .now) (a .at)))) (sym (v .5))
+    (v .2 .ensures))
     (λ v. subst (λ (m : List ℕ). EventPut (a .s .now) (a .at) (a .out .now) m (a .to) (read (args-at (a .s .now) (a .at)))) (sym (v .1))
     (event-past (a .s .now) (a .at) (a .out .now) (a .to) (read (args-at (a .s .now) (a .at))) (v .0 .left)))
     (c .if1 .came) in
