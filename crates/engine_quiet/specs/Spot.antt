@@ -1,6 +1,6 @@
 -- Where a run stands in the record, as the machine by steps has it, and what a step without an event does.
 use Prim.Native.Nat.{ℕ, zero, suc, _+_, _<_, _≤_}
-use mathlib.Core.List.{List, [], _∷_, map}
+use mathlib.Core.List.{List, [], map}
 use mathlib.Core.Bool.{Bool, true, _||_}
 use mathlib.Core.Option.{none}
 use mathlib.Core.Path.{_≡_}
@@ -10,7 +10,7 @@ use lib.ListN.{length, getD}
 use Rattle.arith.specs.Operation.{by-zero}
 use Rattle.record.specs.Record.{Instr, Block, type-in}
 use Rattle.record.specs.Reader.{num-at}
-use Rattle.record.specs.Decode.{id-width, names-count, instr-from, instr-end}
+use Rattle.record.specs.Decode.{id-width, names-count}
 use Rattle.record.specs.Again.{instrs-from, instrs-end, Passing, block-in}
 use Rattle.machine.specs.Machine.{Context, Answer, Stop, at-end, at-ret, at-halt, at-unset, at-division}
 use Rattle.running.specs.Steps.{Stand, over, Config, first-of, take-step}
