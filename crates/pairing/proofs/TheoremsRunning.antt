@@ -6,7 +6,9 @@ use mathlib.Core.Path.{_≡_, refl, sym, ap, _∙_}
 use mathlib.Core.Logic.{_≢_, _↔_}
 use mathlib.Core.Bool.{true, false}
 use mathlib.Core.List.{List}
+use mathlib.Core.Option.{Option}
 use lib.ListN.{length, drop}
+use Rattle.arith.specs.Value.{Val}
 use Rattle.record.specs.declared.Refusal.{Refusal}
 use Rattle.record.specs.declared.Checked.the-variants as check
 use Rattle.record.specs.Record.{Bytes, Placed, Record, Function, plain, function, limits, id-bytes}
@@ -19,7 +21,7 @@ use Rattle.running.specs.declared.Ending.{Ending}
 use Rattle.running.specs.declared.Ending.the-variants.{Limit}
 use Rattle.running.specs.declared.Ran.the-variants.{Done, Refused, Unfit, Room}
 use Rattle.running.specs.Steps.{over, Config, land, steps, start, config-of, shifted}
-use Rattle.running.specs.House.{holding, events-bytes}
+use Rattle.running.specs.House.{holding, store-bytes, events-bytes}
 use Rattle.running.specs.Engine.{lets-pass, ending-of, too-short, engine, engine-events, engine-store}
 use Rattle.running.proofs.Steps.{steps-steps, run-reaches}
 use Rattle.running.proofs.Limit.{Ends, steps-reach}
@@ -28,7 +30,7 @@ use Rattle.running.proofs.Engine.{Given, IsMachine, engine-is-machine, limit-sa
 use Rattle.running.proofs.Lent.{not-done-untouched, beyond-untouched, lent-lengths}
 use Rattle.running.proofs.Cases.{end-config, events-size, store-size, engine-done, refused-exactly, TooShort, room-exactly}
 use Rattle.running.proofs.Unfit.{UnfitAt, WhyUnfit, unfit-exactly, unfit-would-halt}
-use Rattle.running.proofs.Bounds.{FewValues, events-values, events-room}
+use Rattle.running.proofs.Bounds.{FewValues, events-values, events-room, store-most}
 use Rattle.pairing.proofs.Continued.{Continues, final-store-reads-back}
 use Rattle.pairing.proofs.Resumed.{stopped-at, store-again, list-again, given-first, Resumes, resumes, resumes-unfit}
 
@@ -150,6 +152,10 @@ pub room-for-events :
     length (events-bytes (id-bytes (r .version)) (steps (plain-machine f) (f .blocks) k (start (f .blocks) σ xs) .mach .events)) ≤
     148 * suc (length xs)
 room-for-events = events-room
+
+-- And of a store 17 bytes for each name, with 5 before them: 4,357 for 256 names.
+pub room-for-store : (vs : List (Option Val)) → length (store-bytes vs) ≤ 5 + 17 * length vs
+room-for-store = store-most
 
 -- ---- going on from what was left
 -- The final store reads, as the values that the machine has, as a store of the same record whose values have their names' types.

@@ -28,7 +28,7 @@ use Rattle.record.proofs.Accepted.{read-ok}
 use Rattle.record.proofs.Typed.{accept-typed}
 use Rattle.machine.specs.Machine.{Store, Context, plain-machine, Answer, value, go-on, halt, Event, Mach, Step, goes, jumps, ends, tick, assign, happens, read-all, read-cons, event-of, finish, take-value, answered, perform, ask, acknowledged, tell, leave, choose, act, step}
 use Rattle.running.specs.Steps.{Stand, facing, over, Config, moved, step-from, take-step, steps, start}
-use Rattle.running.specs.House.{type-byte, words, value-bytes, event-bytes, events-bytes}
+use Rattle.running.specs.House.{type-byte, words, value-bytes, event-bytes, events-bytes, nothing-byte, stored-bytes, form-bytes, store-bytes}
 use Rattle.running.proofs.Kept.{Shows, in-new, in-effect, in-return, Keeps, steps-keep}
 
 -- ---- events and the answers that are left
@@ -194,6 +194,25 @@ event-size w e =
       length-append n (vs ++ []),
       length-append vs [],
     )
+
+-- ---- the bytes of a store
+held-size : (o : Option Val) → length (stored-bytes o) ≤ 17
+unfolding stored-bytes
+held-size none = omega (arith, length-be 1 nothing-byte)
+held-size (some v) = value-size v
+
+all-held-size : (vs : List (Option Val)) → length (join (map stored-bytes vs)) ≤ 17 * length vs
+unfolding join
+all-held-size [] = omega arith
+all-held-size (o ∷ vs) = omega (arith, held-size o, all-held-size vs, length-append (stored-bytes o) (join (map stored-bytes vs)))
+
+-- length and version, and 17 bytes a name: 4,357 for 256
+pub store-most : (vs : List (Option Val)) → length (store-bytes vs) ≤ 5 + 17 * length vs
+unfolding store-bytes form-bytes
+store-most vs =
+    let items = join (map stored-bytes vs) in
+    let rest = be 1 1 ++ items in
+    omega (arith, all-held-size vs, length-be 4 (length rest), length-append (be 4 (length rest)) rest, length-be 1 1, length-append (be 1 1) items)
 
 -- ---- "argument count 0 to 8": the values of an event
 abbrev asked : Form → List NameIx → List NameIx
