@@ -1,11 +1,13 @@
 // The operators of the value codes 1 to 14, grouped by how many operands they have.
-#[derive(Drop)]
+#![tactic(auto)]
+
+#[derive(Clone, Copy)]
 pub enum One {
     Not,
     Id,
 }
 
-#[derive(Drop)]
+#[derive(Clone, Copy)]
 pub enum Two {
     Add,
     Sub,

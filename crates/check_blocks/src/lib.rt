@@ -1,4 +1,6 @@
 // The instructions and blocks of a record: each function is the definition's reader with its value forgotten.
+#![tactic(auto)]
+
 ghost use Rattle.std.specs.Prelude.{◌≡◌, [], ℕ, eqb};
 ghost use Rattle.record.specs.Reader.{field, times, if_there};
 ghost use Rattle.record.specs.Record.{nm, no_lit};

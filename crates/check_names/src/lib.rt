@@ -1,5 +1,7 @@
 // The check of names: a type, a text's length and the text of each. The names before one are those that stand from a place on, k of them;
 // their texts are the texts that the definition has seen.
+#![tactic(auto)]
+
 ghost use Rattle.std.specs.Prelude.{◌≡◌, cond, not, ◌||◌, [], ◌+◌, ◌<◌, ◌≤◌, length, take, drop, eqb};
 ghost use Rattle.record.specs.Reader.{field, text};
 ghost use Rattle.record.specs.Text.{reserved};

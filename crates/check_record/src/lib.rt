@@ -1,4 +1,6 @@
 // A record from its length to its end: the definition of reading with its value forgotten.
+#![tactic(auto)]
+
 ghost use Rattle.std.specs.Prelude.{◌≡◌};
 ghost use Rattle.record.specs.Reader.{field};
 ghost use Rattle.record.specs.Tests.{length_test, version_test, names_test};

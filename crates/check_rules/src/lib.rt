@@ -1,5 +1,7 @@
 // The rules of the codes for the types of an instruction's names, and whether an instruction keeps to the rule of its code.
 // All reads are total, 0 past the end. types: the type byte of each name.
+#![tactic(auto)]
+
 ghost use Rattle.std.specs.Prelude.{◌≡◌, true, false, [], ◌∷◌, map, ◌+◌, ◌*◌, ◌<◌, ◌≤◌, get_or};
 ghost use Rattle.record.specs.Record.{nm, type_in};
 ghost use Rattle.record.specs.Typing.{fits_dest, copies, shifts, allocates, loads, joins, stores, frees, branches, takes, each_is, well_typed};
@@ -9,7 +11,7 @@ ghost use Rattle.check_rules.specs.Rules.{rule, code_rule, args_from, joins_reac
 
 // What a code asks of the types of its dest and its arguments. TakesOne: an argument of the first type, a dest of the second.
 // TakesTwo: two arguments of the first type, a dest of the second.
-#[derive(Drop)]
+#[derive(Clone, Copy)]
 pub enum Rule {
     Free,
     FitsDest,

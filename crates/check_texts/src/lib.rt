@@ -1,4 +1,6 @@
 // The bytes of a text: well formed, reserved, or the text of one of the names before it. "The text at t" is the n bytes from t on.
+#![tactic(auto)]
+
 ghost use Rattle.std.specs.Prelude.{◌≡◌, ◌||◌, ◌+◌, ◌<◌, ◌≤◌, length, take, drop};
 ghost use Rattle.record.specs.Text.{digit, letter, all_text, well_formed, undigited, ends_lvn, reserved, same_bytes, among};
 ghost use Rattle.record.specs.Decode.{behind, name_from, name_end};

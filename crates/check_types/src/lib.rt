@@ -1,5 +1,7 @@
 // The second pass over a record that was read without a fault: the first instruction that breaks the rule of its code, by the types of the
 // names. All reads are total, 0 past the end, so the pass asks nothing of the bytes.
+#![tactic(auto)]
+
 ghost use Rattle.std.specs.Prelude.{◌≡◌, ℕ, ◌+◌, ◌*◌, ◌<◌, ◌≤◌};
 ghost use Rattle.record.specs.declared.Next.TheVariants.{At};
 ghost use Rattle.read_fields.specs.Places.{places};

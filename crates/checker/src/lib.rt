@@ -1,4 +1,6 @@
 // Check: a record is read, each field tested in the order read; then each instruction's types.
+#![tactic(auto)]
+
 ghost use Rattle.std.specs.Prelude.{◌≡◌, ◌≤◌};
 ghost use Rattle.record.specs.Record.{limits};
 ghost use Rattle.record.specs.Read.{read};

@@ -1,5 +1,7 @@
 // Rewrite with the three demands as its promise, and figures with document 02's: where the contracts of the code and the theorems about
 // the definitions meet, with nothing assumed of what is lent. No program calls these; they stand here to be read and proved.
+#![tactic(auto)]
+
 ghost use Rattle.pairing.specs.Contract.{DemandsMet, FiguresMet};
 
 use numbering::{Figured, Rewritten};

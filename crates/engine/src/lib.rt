@@ -1,5 +1,7 @@
 // Running an accession: the plain machine over a record, a starting store and a list of answers, up to a limit of steps. What a run comes to
 // is learnt first; then it is run again from its first event on, and its events are written.
+#![tactic(auto)]
+
 ghost use Rattle.std.specs.Prelude.{◌≡◌, ◌+◌, ◌<◌};
 ghost use Rattle.record.specs.Answer.{checked};
 ghost use Rattle.record.specs.Decode.{id_width};

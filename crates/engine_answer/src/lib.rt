@@ -1,4 +1,6 @@
 // The engine's answer in numbers, for those who hand it on: its number, its values with 0 where it has none, and how many it has.
+#![tactic(auto)]
+
 ghost use Rattle.std.specs.Prelude.{◌≡◌, ◌≤◌, length, get_or};
 ghost use Rattle.running.specs.Engine.{ending_values, engine_answer};
 ghost use Rattle.engine_answer.specs.Five.{five, first_five};
@@ -7,7 +9,7 @@ use running::{Ending, Ran};
 
 // Five values: the bytes of the events and of the store, the steps, how the run ended, and the id of a division; of a refusal the first is
 // its offset; of 14 the first two are the bytes needed.
-#[derive(Drop)]
+#[derive(Clone, Copy)]
 pub struct Five(pub u64, pub u64, pub u64, pub u64, pub u64);
 
 // How a run ended: 0 for the end, 1 for ret, 2 for halt, 3 for unset, 4 for a division by zero, 5 for a limit that is spent.

@@ -1,5 +1,7 @@
 // The store of a running function: a table of cells, one for each name, and the values of a row of names, measured and written.
 // A cell is three words: the type byte of its value, FF for nothing; its word, or a pointer's base; a pointer's offset.
+#![tactic(auto)]
+
 ghost use Rattle.std.specs.Prelude.{◌≡◌, cond, ℕ, ◌+◌, ◌*◌, ◌<◌, ◌≤◌, length, get_or, set, leb};
 ghost use Rattle.std.proofs.Math.Option.{some};
 ghost use Rattle.arith.specs.Map.{upd};
@@ -14,7 +16,7 @@ ghost use Rattle.engine_cells.specs.Cells.{cell_holds, kind_in, word_in, offset_
 ghost use Rattle.engine_cells.specs.declared.Size.TheVariants.{Is};
 
 // What a cell holds.
-#[derive(Drop)]
+#[derive(Clone, Copy)]
 pub struct Cell {
     pub kind: u8,
     pub word: u64,
@@ -22,7 +24,7 @@ pub struct Cell {
 }
 
 // The bytes of the values of a row of names; or one of them is not set.
-#[derive(Drop)]
+#[derive(Clone, Copy)]
 pub enum Size {
     Is(usize),
     Unset,

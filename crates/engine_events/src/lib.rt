@@ -1,5 +1,7 @@
 // The instructions with an event: codes 20 to 39, 67, 68, 70, 71 and ret. The event is told before the answer is looked at.
 // s: the record; w: the bytes of an id; list: the answers; out: what was lent for the events.
+#![tactic(auto)]
+
 ghost use Rattle.std.specs.Prelude.{◌≡◌, true, false, cond, [], ◌∷◌, ◌≢◌, ◌+◌, ◌-◌, ◌*◌, ◌<◌, ◌≤◌, length};
 ghost use Rattle.record.specs.Record.{type_in};
 ghost use Rattle.record.specs.Reader.{num_at};
@@ -18,7 +20,7 @@ use engine_quiet::Spot;
 
 // A run: where it stands, how many steps it may still take, the place of the next answer and how many are left, the place behind the events,
 // and whether events are told or the run waits before the first.
-#[derive(Drop)]
+#[derive(Clone, Copy)]
 pub struct Turn {
     pub spot: Spot,
     pub more: u64,

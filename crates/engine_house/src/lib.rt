@@ -1,4 +1,6 @@
 // The house form: values, stores and lists of answers as bytes, read with their tests; answers read a second time; and a store written.
+#![tactic(auto)]
+
 ghost use Rattle.std.specs.Prelude.{◌≡◌, true, ◌||◌, ◌+◌, ◌*◌, ◌<◌, ◌≤◌, T, eqb, length};
 ghost use Rattle.arith.specs.Value.{has_type};
 ghost use Rattle.record.specs.Record.{nm};
@@ -14,14 +16,14 @@ use read_fields::Num;
 use record::Test;
 
 // What an item holds and the place behind it; or it does not read.
-#[derive(Drop)]
+#[derive(Clone, Copy)]
 pub enum Item {
     Is(Cell, usize),
     No,
 }
 
 // How many answers a list has; or it does not read.
-#[derive(Drop)]
+#[derive(Clone, Copy)]
 pub enum Told {
     Are(usize),
     No,

@@ -1,5 +1,7 @@
 // What const and the codes 1 to 14 do to the store: their operands read from the cells, the result put into dest's cell.
 // at: the place behind an instruction's code, where dest stands.
+#![tactic(auto)]
+
 ghost use Rattle.std.specs.Prelude.{◌≡◌, ℕ, ◌+◌, ◌*◌, ◌<◌, ◌≤◌, length};
 ghost use Rattle.std.proofs.Math.Option.{some};
 ghost use Rattle.arith.specs.declared.One.TheVariants.{Not, Id};
@@ -21,7 +23,7 @@ use engine_cells::Cell;
 use words::Quotient;
 
 // Done, with dest set; stopped by a division; or an operand is not set.
-#[derive(Drop)]
+#[derive(Clone, Copy)]
 pub enum Worked {
     Done,
     Stops,

@@ -1,5 +1,7 @@
 // Where a run stands in a record, and the instructions without an event: const, codes 1 to 14, jmp, br and nop. w: the bytes of an id.
 // starts: the places of the blocks.
+#![tactic(auto)]
+
 ghost use Rattle.std.specs.Prelude.{◌≡◌, true, List, ℕ, ◌+◌, ◌-◌, ◌<◌, ◌≤◌, length};
 ghost use Rattle.record.specs.Decode.{id_width, instr_end};
 ghost use Rattle.running.specs.Steps.{first_of, land};
@@ -10,7 +12,7 @@ use engine_pure::Worked;
 
 // Where a run stands: in which block, at which place of the record, and with how many instructions of the block left, none once it is over;
 // and how it is over then.
-#[derive(Drop)]
+#[derive(Clone, Copy)]
 pub struct Spot {
     pub block: usize,
     pub at: usize,

@@ -1,4 +1,6 @@
 // What the program that runs an accession writes, put into lent buffers: the answer, the events and the final store.
+#![tactic(auto)]
+
 ghost use Rattle.std.specs.Prelude.{◌≡◌, ◌++◌, map, ◌≤◌, length, take};
 ghost use Rattle.record.specs.Write.{be, join};
 ghost use Rattle.running.specs.Engine.{engine_answer};
@@ -14,7 +16,7 @@ use running::Ran;
 const HEAD: usize = 41;
 
 // How many bytes of the answer, of the events and of the store are to be written, one part after the other.
-#[derive(Drop)]
+#[derive(Clone, Copy)]
 pub struct Parts {
     pub head: usize,
     pub events: usize,

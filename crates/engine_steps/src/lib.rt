@@ -1,5 +1,7 @@
 // The machine by steps: one instruction, and as many as may be done. s: the record; w: the bytes of an id; starts: the places of the blocks;
 // list: the answers; out: what was lent for the events.
+#![tactic(auto)]
+
 ghost use Rattle.std.specs.Prelude.{◌≡◌, true, ◌≢◌, ◌+◌, ◌<◌, length};
 ghost use Rattle.record.specs.Decode.{id_width};
 ghost use Rattle.read_fields.specs.Places.{places};

@@ -1,6 +1,8 @@
 // The library for other languages: check, rewrite, figures, name text and running, called as C functions. Each returns 0, or the number of
 // its refusal, and leaves the values that go with it in a lent place; include/lvn.h says the same for C. A slice is a pointer and a length
 // there.
+#![tactic(auto)]
+
 ghost use Rattle.std.specs.Prelude.{◌≡◌, cond};
 ghost use Rattle.record.specs.Answer.{check_answer, checked};
 ghost use Rattle.numbering.specs.Rewrite.{rewrite_answer, rewrite, rewrite_leaves};

@@ -1,5 +1,7 @@
 // Figures: what rewrite would need and write, worked out from the input alone. The blocks are numbered once, as rewrite numbers them, and
 // nothing is written but how many instructions each has.
+#![tactic(auto)]
+
 ghost use Rattle.std.specs.Prelude.{◌≡◌, ◌*◌, ◌≤◌, length};
 ghost use Rattle.record.specs.Reader.{num_at};
 ghost use Rattle.record.specs.Answer.{checked};

@@ -1,4 +1,6 @@
 // The program: standard input to standard output through rewrite. Run on C1.
+#![tactic(auto)]
+
 fn main() {
     filter::run();
 }

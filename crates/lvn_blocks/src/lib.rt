@@ -1,5 +1,7 @@
 // The rewriting of a block and of all blocks: instructions of an accepted record read again, numbered and written.
 // Writing past the end does nothing, so that over an empty output the same functions learn the size and K.
+#![tactic(auto)]
+
 ghost use Rattle.std.specs.Prelude.{◌≡◌, List, [], ◌∷◌, ◌++◌, ◌+◌, ◌^◌, ◌<◌, ◌≤◌, length};
 ghost use Rattle.record.specs.Record.{Instr, Block, type_in};
 ghost use Rattle.record.specs.Reader.{num_at};
@@ -70,14 +72,14 @@ pub fn note_save(names: &mut [u16], k: u16, i: Instruction, made: NameIx)
 }
 
 // A place in the input, and the place in the output.
-#[derive(Drop)]
+#[derive(Clone, Copy)]
 pub struct Spot {
     pub p: usize,
     pub q: usize,
 }
 
 // The state, and where it stands.
-#[derive(Drop)]
+#[derive(Clone, Copy)]
 pub struct Turn {
     pub st: LvnState,
     pub at: Spot,
@@ -163,14 +165,14 @@ pub const NAMES: usize = 256;
 pub const NUMBERS: usize = 512;
 
 // K, which runs on from block to block, and the saves of all blocks so far.
-#[derive(Drop)]
+#[derive(Clone, Copy)]
 pub struct SaveCount {
     pub k: u16,
     pub total: u16,
 }
 
 // The place behind a block, and the count there.
-#[derive(Drop)]
+#[derive(Clone, Copy)]
 pub struct Behind {
     pub at: Spot,
     pub count: SaveCount,

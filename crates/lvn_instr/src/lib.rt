@@ -1,4 +1,6 @@
 // One instruction: its arguments numbered and replaced by their homes, its value formed, simplified and looked up, the save that it owes.
+#![tactic(auto)]
+
 ghost use Rattle.std.specs.Prelude.{◌≡◌, List, [], ◌∷◌, map, ℕ, ◌+◌, ◌<◌, ◌≤◌, length};
 ghost use Rattle.arith.specs.Code.{code1, code2};
 ghost use Rattle.arith.specs.Operation.{constant, one, two};
@@ -26,7 +28,7 @@ use numbering::{Constant, ValNum, Value};
 use record::{Instruction, Literal, NameIx, Op};
 
 // The state behind an instruction, the made name of the save that is written before it, 65535 where none is, and what it is written as.
-#[derive(Drop)]
+#[derive(Clone, Copy)]
 pub struct Emitted {
     pub state: LvnState,
     pub made: NameIx,

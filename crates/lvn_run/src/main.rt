@@ -1,5 +1,7 @@
 // The program that runs an accession: record, store, answers and limit from standard input, the answer, the events and the final store to
 // standard output. Run on a = call 3 (a); print a, with 5 in a, the answers 6 and go on, and 9 steps.
+#![tactic(auto)]
+
 use libc::{STDIN_FILENO, STDOUT_FILENO};
 
 fn main() {

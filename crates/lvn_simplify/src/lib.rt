@@ -1,5 +1,7 @@
 // Simplifying a value over its operator and what is known of its operands, as numbering's specs/Simplify.antt has it:
 // folds, then identities, then the order of operands. Unique, of which nothing is known, stands for none.
+#![tactic(auto)]
+
 ghost use Rattle.std.specs.Prelude.{◌≡◌, cond, not};
 ghost use Rattle.std.proofs.Math.Option.{Option, none, some};
 ghost use Rattle.arith.specs.declared.Two.TheVariants as two_operands;
@@ -17,7 +19,7 @@ use numbering::{Constant, ValNum, Value};
 use words::Quotient;
 
 // The constant of a number, where it is known.
-#[derive(Drop)]
+#[derive(Clone, Copy)]
 pub enum Known {
     Nothing,
     Is(Constant),

@@ -1,5 +1,7 @@
 // The state of the numbering of a block, by value, with the methods that see an argument, give and take a number, and save a home, each
 // handing it back. Its two maps, the numbers of names and the homes of numbers, are lent beside it, and so is the table of numbered values.
+#![tactic(auto)]
+
 ghost use Rattle.std.specs.Prelude.{◌≡◌, ◌≢◌, List, [], ℕ, ◌+◌, ◌<◌, ◌≤◌, length};
 ghost use Rattle.std.proofs.Math.Option.{some, get_or};
 ghost use Rattle.arith.specs.declared.One.TheVariants.{Id};
@@ -20,21 +22,21 @@ use record::NameIx;
 
 // The next number, and K. The maps beside it: env has the number of each name, 65535 where it has none; homes has the home of each number,
 // 65535 where the number is not given.
-#[derive(Drop)]
+#[derive(Clone, Copy)]
 pub struct LvnState {
     pub count: u16,
     pub made: u16,
 }
 
 // A state, and the made name of the save that is owed before the instruction, 65535 where none is.
-#[derive(Drop)]
+#[derive(Clone, Copy)]
 pub struct Saved {
     pub state: LvnState,
     pub made: NameIx,
 }
 
 // A state, and the number that the value of an instruction had, where it had one.
-#[derive(Drop)]
+#[derive(Clone, Copy)]
 pub struct Settled {
     pub state: LvnState,
     pub number: Numbered,

@@ -1,5 +1,7 @@
 // The table of numbered values, lent beside the numbering state: of each number a head, which holds the operator and the operands, and a
 // constant.
+#![tactic(auto)]
+
 ghost use Rattle.std.specs.Prelude.{◌≡◌, ◌<◌, ◌≤◌, ◌*◌, length};
 ghost use Rattle.std.proofs.Math.Option.{some};
 ghost use Rattle.arith.specs.Operation.{Expr, constant};
@@ -15,14 +17,14 @@ use lvn_simplify::Known;
 use numbering::{Constant, ValNum, Value};
 
 // The number of a name or of a value, where it has one.
-#[derive(Drop)]
+#[derive(Clone, Copy)]
 pub enum Numbered {
     Unseen,
     Is(ValNum),
 }
 
 // What stands in the table for a value.
-#[derive(Drop)]
+#[derive(Clone, Copy)]
 pub struct Entry {
     pub head: u64,
     pub num: u64,

@@ -1,1 +1,2 @@
 // The plain machine: definitions alone, in specs/.
+#![tactic(auto)]

@@ -1,4 +1,6 @@
 // Name text: the part of the input or of its rewriting that is the text of a name.
+#![tactic(auto)]
+
 ghost use Rattle.std.specs.Prelude.{◌≡◌, Bool, true, false, ℕ, ◌+◌, ◌<◌, ◌≤◌};
 ghost use Rattle.record.specs.Answer.{verdict};
 ghost use Rattle.record.specs.declared.Next.TheVariants.{At};
@@ -10,7 +12,7 @@ use read_fields::Num;
 use record::{Checked, Next, Refusal};
 
 // The answer, and a part of the input or of the rewriting.
-#[derive(Drop)]
+#[derive(Clone, Copy)]
 pub struct Found {
     pub answer: Named,
     pub rewriting: bool,

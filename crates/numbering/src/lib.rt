@@ -1,13 +1,15 @@
 // The types that the definitions of local value numbering and the code share.
+#![tactic(auto)]
+
 use arith::{One, Two};
 use record::Refusal;
 
 // A value number. Name indexes are another kind, NameIx of the crate record.
-#[derive(Drop)]
+#[derive(Clone, Copy)]
 pub struct ValNum(pub u16);
 
 // A constant that is numbered: an int, or an int literal in a float, which is the value "that literal", by its word; or a bool.
-#[derive(Drop)]
+#[derive(Clone, Copy)]
 pub enum Constant {
     Int(u64),
     IntAsFloat(u64),
@@ -16,7 +18,7 @@ pub enum Constant {
 
 // A value expression which is given a value number, by form. Unique, of which nothing is known, stands first: it is what an array holds at
 // the start.
-#[derive(Drop)]
+#[derive(Clone, Copy)]
 pub enum Value {
     Unique,
     Constant(Constant),
@@ -25,7 +27,7 @@ pub enum Value {
 }
 
 // The answer of rewrite: bytes written and saves; a refusal of check with its offset; the bytes that the output is too small for.
-#[derive(Drop)]
+#[derive(Clone, Copy)]
 pub enum Rewritten {
     Written(usize, usize),
     Refused(Refusal, usize),
@@ -33,7 +35,7 @@ pub enum Rewritten {
 }
 
 // The answer of figures: bytes needed and saves; a refusal of check with its offset; fewer places than blocks.
-#[derive(Drop)]
+#[derive(Clone, Copy)]
 pub enum Figured {
     Counted(usize, usize),
     Refused(Refusal, usize),
@@ -41,7 +43,7 @@ pub enum Figured {
 }
 
 // The answer of name text: the text is handed back; a refusal with its offset; the rewriting does not belong to the input.
-#[derive(Drop)]
+#[derive(Clone, Copy)]
 pub enum Named {
     Text,
     Refused(Refusal, usize),

@@ -1,1 +1,2 @@
 // Pairs of an input and its rewriting: definitions and theorems alone, in specs/ and proofs/.
+#![tactic(auto)]

@@ -1,4 +1,6 @@
 // Fields of a record: the reader, their numbers, the tests of them, and the fields that more than one part of a record has.
+#![tactic(auto)]
+
 ghost use Rattle.std.specs.Prelude.{◌≡◌, cond, ◌+◌, ◌-◌, ◌<◌, ◌≤◌, length, get_or};
 ghost use Rattle.record.specs.Reader.{got, then, num_at, field, judge, times};
 ghost use Rattle.record.specs.Tests.{need, any, at_most, below};
@@ -9,7 +11,7 @@ ghost use Rattle.read_fields.specs.Places.{places};
 use record::{Next, Refusal, Test};
 
 // A field's number and the place behind it, or the reason and offset of its refusal.
-#[derive(Drop)]
+#[derive(Clone, Copy)]
 pub enum Num {
     Is(u64, usize),
     No(Refusal, usize),

@@ -1,4 +1,6 @@
 // Instructions of an accepted record read again: nothing is tested, and past the end a byte is 0.
+#![tactic(auto)]
+
 ghost use Rattle.std.specs.Prelude.{◌≡◌, cond, ◌+◌, ◌*◌, ◌^◌, ◌<◌, ◌≤◌, take};
 ghost use Rattle.record.specs.Record.{no_lit};
 ghost use Rattle.record.specs.Shape.{shape_of};
@@ -14,7 +16,7 @@ ghost use Rattle.read_instrs.specs.Again.{lit_from, Readable, OperandsAgain, Rea
 use record::{Instruction, Literal, NameIx, Shape};
 
 // An instruction and the place behind it.
-#[derive(Drop)]
+#[derive(Clone, Copy)]
 pub struct Read {
     pub instr: Instruction,
     pub next: usize,

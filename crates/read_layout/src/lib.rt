@@ -1,5 +1,7 @@
 // Where the parts of a record that was checked stand: its names, its instructions, its blocks. All reads are total, 0 past the end, so
 // nothing is asked of the bytes.
+#![tactic(auto)]
+
 ghost use Rattle.std.specs.Prelude.{◌≡◌, ◌+◌, ◌*◌, ◌<◌, ◌≤◌, set};
 ghost use Rattle.std.proofs.lemmas.List.Edits.{sets};
 ghost use Rattle.record.specs.Record.{id_bytes};
@@ -12,7 +14,7 @@ ghost use Rattle.read_layout.specs.Layout.{types_from, places_from, blocks_from,
 use record::Shape;
 
 // What the head of a record says: the bytes of an id, how many arguments, names and blocks there are, and where the names end.
-#[derive(Drop)]
+#[derive(Clone, Copy)]
 pub struct Layout {
     pub width: usize,
     pub args: u16,

@@ -1,4 +1,6 @@
 // What follows an instruction's code, and the tests and fields that go by it.
+#![tactic(auto)]
+
 ghost use Rattle.std.specs.Prelude.{◌≡◌, true, false, ◌<◌, ◌≤◌};
 ghost use Rattle.arith.specs.Value.{scalar};
 ghost use Rattle.record.specs.Reader.{field};

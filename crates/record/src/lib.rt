@@ -1,15 +1,17 @@
 // The types that the definitions of a function record and the code share.
+#![tactic(auto)]
+
 use arith::{One, Two};
 
 // The type byte of float.
 pub const FLOAT: u8 = 0x02;
 
 // The index of a name. Value numbers are another kind, ValNum of the crate numbering.
-#[derive(Drop)]
+#[derive(Clone, Copy)]
 pub struct NameIx(pub u16);
 
 // A literal. The logic has one NaN and no contract can say which bits a NaN has, so the bits of a NaN stand in a variant of their own.
-#[derive(Drop)]
+#[derive(Clone, Copy)]
 pub enum Literal {
     Int(i64),
     Bool(bool),
@@ -19,7 +21,7 @@ pub enum Literal {
 }
 
 // What an instruction does, by form: const; codes 1 to 14; codes 20 to 39, which give a new value each time; 67, 68, 70 and 71; nop, jmp, br and ret.
-#[derive(Drop)]
+#[derive(Clone, Copy)]
 pub enum Op {
     Const,
     One(One),
@@ -34,7 +36,7 @@ pub enum Op {
 
 // An instruction. Parts that its operation does not have are 0; of the arguments the first `count` count, of the block numbers as many as
 // its operation has, which for phi is one for each argument.
-#[derive(Drop)]
+#[derive(Clone, Copy)]
 pub struct Instruction {
     pub id: u64,
     pub op: Op,
@@ -48,7 +50,7 @@ pub struct Instruction {
 
 // What follows an instruction's code: whether the code is known and stands last in its block, whether a literal and a destination follow,
 // the fewest and the most arguments, whether a callee follows, and how many block numbers, or whether one for each argument.
-#[derive(Drop)]
+#[derive(Clone, Copy)]
 pub struct Shape {
     pub known: bool,
     pub last: bool,
@@ -63,7 +65,7 @@ pub struct Shape {
 
 // What a record is read with: the most names, the longest text, the most instructions of a block, and whether made names may stand in it,
 // so that reserved texts and nonzero saves pass.
-#[derive(Drop)]
+#[derive(Clone, Copy)]
 pub struct Limits {
     pub names: u64,
     pub text: u64,
@@ -72,7 +74,7 @@ pub struct Limits {
 }
 
 // The reasons of check's refusals; specs/Answer.antt has their numbers.
-#[derive(Drop)]
+#[derive(Clone, Copy)]
 pub enum Refusal {
     Length,
     Version,
@@ -85,21 +87,21 @@ pub enum Refusal {
 }
 
 // What a field's test says of its number.
-#[derive(Drop)]
+#[derive(Clone, Copy)]
 pub enum Test {
     Passes,
     Fails(Refusal),
 }
 
 // Where reading goes on, or the first fault: its reason and offset.
-#[derive(Drop)]
+#[derive(Clone, Copy)]
 pub enum Next {
     At(usize),
     Refused(Refusal, usize),
 }
 
 // The answer of check.
-#[derive(Drop)]
+#[derive(Clone, Copy)]
 pub enum Checked {
     Accepted,
     Refused(Refusal, usize),

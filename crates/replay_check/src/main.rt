@@ -1,5 +1,7 @@
 // Replays a list of damaged records, read from standard input: each line a record in hexadecimal, the number of check's refusal and its
 // offset, 0 0 for a record that is accepted. Writes how many answers agree and how many do not.
+#![tactic(auto)]
+
 use libc::STDIN_FILENO;
 use record::Checked;
 use replay_lines::{Counts, Line};

@@ -1,6 +1,8 @@
 // Replays records with their figures, read from standard input: each line a record in hexadecimal, a number and two values. They are 0, the
 // bytes and the saves of the rewriting of a record that is accepted, and then each block's figure; or the number and offset of a refusal,
 // and 0. Writes for how many lines figures answers so, and for how many not.
+#![tactic(auto)]
+
 ghost use Rattle.std.specs.Prelude.{◌≤◌, length};
 
 use libc::STDIN_FILENO;
@@ -14,7 +16,7 @@ const MOST: usize = 66;
 const FILL: u16 = 61166;
 
 // A number with the values that go with it.
-#[derive(Drop)]
+#[derive(Clone, Copy)]
 pub struct Answer {
     pub number: u64,
     pub value: u64,

@@ -1,5 +1,7 @@
 // What the programs that replay a stored list share: records in hexadecimal and decimal numbers, read from lines of text, and the count of
 // the lines that agree.
+#![tactic(auto)]
+
 ghost use Rattle.std.specs.Prelude.{◌+◌, ◌<◌, ◌≤◌, length};
 
 use libc::STDOUT_FILENO;
@@ -8,28 +10,28 @@ use libc::STDOUT_FILENO;
 pub const LONGEST: usize = 524288;
 
 // Where reading goes on, and how many bytes were made.
-#[derive(Drop)]
+#[derive(Clone, Copy)]
 pub struct Part {
     pub next: usize,
     pub len: usize,
 }
 
 // Where reading goes on, and the number read.
-#[derive(Drop)]
+#[derive(Clone, Copy)]
 pub struct Decimal {
     pub next: usize,
     pub value: u64,
 }
 
 // Where the next line begins, and whether all answers to this one agreed.
-#[derive(Drop)]
+#[derive(Clone, Copy)]
 pub struct Line {
     pub next: usize,
     pub same: bool,
 }
 
 // Where the next line begins, and how many before it agreed and how many did not.
-#[derive(Drop)]
+#[derive(Clone, Copy)]
 pub struct Counts {
     pub at: usize,
     pub same: u64,

@@ -1,13 +1,15 @@
 // Replays name text over a list that is read from standard input: each line an input and a rewriting in hexadecimal and an index; then the
 // number and offset of the refusal, 0 0 for a text; 0 for a part of the input or 1 for one of the rewriting, its start, its length and its
 // bytes. Writes for how many lines name text tells so, and for how many not.
+#![tactic(auto)]
+
 use libc::STDIN_FILENO;
 use name_text::Found;
 use numbering::Named;
 use replay_lines::{Counts, Line};
 
 // What a line says of the answer and of the part, and where its bytes begin.
-#[derive(Drop)]
+#[derive(Clone, Copy)]
 pub struct Told {
     pub number: u64,
     pub offset: u64,

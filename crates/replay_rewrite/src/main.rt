@@ -1,6 +1,8 @@
 // Replays records with their rewritings, read from standard input: each line a record in hexadecimal, a number, a value and bytes. They are
 // 0, the saves and the rewriting of a record that is accepted; or the number and offset of a refusal, and no bytes.
 // Writes for how many lines rewrite answers so, and for how many not.
+#![tactic(auto)]
+
 use libc::STDIN_FILENO;
 use numbering::Rewritten;
 use replay_lines::{Counts, Line};

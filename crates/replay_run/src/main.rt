@@ -1,6 +1,8 @@
 // Replays runs of records, read from standard input: each line a record, a store and a list of answers in hexadecimal, `-` for one that is
 // empty, the limit, the number and the five values of the answer, then the events and the final store in hexadecimal, `-` for none. Writes
 // for how many lines the engine answers so, and leaves in what is lent what it should, and for how many not.
+#![tactic(auto)]
+
 ghost use Rattle.std.specs.Prelude.{◌≤◌, length};
 
 use engine_answer::Five;
@@ -17,7 +19,7 @@ const STORE: usize = 4363;
 const FILL: u8 = 0xEE;
 
 // A limit, the answer's number and values, and how many bytes are lent for the events and for the store.
-#[derive(Drop)]
+#[derive(Clone, Copy)]
 pub struct Case {
     pub limit: u64,
     pub number: u64,
@@ -195,7 +197,7 @@ pub fn bytes_at(text: &[u8], at: usize, out: &mut [u8]) -> Part
 }
 
 // Where reading goes on, and the limit, number and values read.
-#[derive(Drop)]
+#[derive(Clone, Copy)]
 pub struct Told {
     pub next: usize,
     pub to: Case,

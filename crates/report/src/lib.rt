@@ -1,4 +1,6 @@
 // What the program prints, put into a lent buffer: the rewriting's bytes, or the line of a refusal.
+#![tactic(auto)]
+
 ghost use Rattle.std.specs.Prelude.{◌≡◌, [], ◌∷◌, ◌≤◌, length, take};
 ghost use Rattle.numbering.specs.Program.{refused_line, program_output};
 ghost use Rattle.write_bytes.specs.Put.{Wrote};

@@ -1,6 +1,8 @@
 // Rewrite: a record is checked and its rewriting written. Where the output surely has room, the blocks are written once and then moved
 // behind the names that are made. Otherwise they are numbered twice: over an empty output, which gives the bytes needed and the made
 // names, then over the output.
+#![tactic(auto)]
+
 ghost use Rattle.std.specs.Prelude.{◌≡◌, ◌∷◌, ◌+◌, ◌*◌, ◌≤◌, length};
 ghost use Rattle.record.specs.Reader.{num_at};
 ghost use Rattle.record.specs.Write.{be, join, bytes};
@@ -87,7 +89,7 @@ pub fn front_size(s: &[u8], places: &[u32], names: &[u16], end: usize, k: u16) -
 }
 
 // How many bytes the rewriting has, and how many saves.
-#[derive(Drop)]
+#[derive(Clone, Copy)]
 pub struct Size {
     pub bytes: usize,
     pub saves: u16,

@@ -1,4 +1,6 @@
 // The program, run on nothing.
+#![tactic(auto)]
+
 fn main() {
     filter::run();
 }

@@ -1,4 +1,6 @@
 // The program, run on an accepted record of 8,192 bytes, the most that it takes; the rewriting has 60,930.
+#![tactic(auto)]
+
 fn main() {
     filter::run();
 }

@@ -1,8 +1,10 @@
 // Running an accession: definitions in specs/, and the types that they share with the code.
+#![tactic(auto)]
+
 use record::Refusal;
 
 // How a run ended: at the end, by ret, halt, unset or a division by zero, which is told by its id; or the limit is spent.
-#[derive(Drop)]
+#[derive(Clone, Copy)]
 pub enum Ending {
     End,
     Ret,
@@ -14,7 +16,7 @@ pub enum Ending {
 
 // The answer of the engine: the bytes of the events and of the store, the steps, and how it ended; a refusal of check with its offset;
 // 13; 14, with the bytes that the events and the store need.
-#[derive(Drop)]
+#[derive(Clone, Copy)]
 pub enum Ran {
     Done(usize, usize, u64, Ending),
     Refused(Refusal, usize),

@@ -1,4 +1,6 @@
 // Arithmetic on ints by their words, as arith's specs/Word.antt has it, and i64 to words and back.
+#![tactic(auto)]
+
 ghost use Rattle.std.specs.Prelude.{◌≡◌, ◌<◌};
 ghost use Rattle.std.specs.Int.{w64};
 ghost use Rattle.std.proofs.Common.{to_z, of_z};
@@ -12,7 +14,7 @@ const LEAST: u64 = 0x8000_0000_0000_0000;
 const MINUS_ONE: u64 = 0xFFFF_FFFF_FFFF_FFFF;
 
 // The answer of a division: the quotient's word, or that it stops.
-#[derive(Drop)]
+#[derive(Clone, Copy)]
 pub enum Quotient {
     Is(u64),
     Stops,

@@ -1,5 +1,7 @@
 // Writing to a lent slice. `put_u8` and `copy_bytes` leave out what would stand past the end, and the writers over them with it, so they
 // ask for no room, and over an empty slice they learn the size. Only `store_bytes` and `move_up` ask that what they write lies inside.
+#![tactic(auto)]
+
 ghost use Rattle.std.specs.Prelude.{◌≡◌, ◌+◌, ◌-◌, ◌^◌, ◌<◌, ◌≤◌, length, take, drop};
 ghost use Rattle.record.specs.Write.{be, name_bytes};
 ghost use Rattle.numbering.specs.Made.{digits, made_text};

@@ -1,4 +1,6 @@
 // Instructions written: each part answers the place behind it.
+#![tactic(auto)]
+
 ghost use Rattle.std.specs.Prelude.{◌≡◌, map, ◌+◌, ◌*◌, ◌^◌, ◌<◌, ◌≤◌, take};
 ghost use Rattle.record.specs.Record.{nm};
 ghost use Rattle.record.specs.Shape.{shape_of};

@@ -1,4 +1,6 @@
 // What stands between the length of a record and its blocks: version, A and N, the input's names, and the made ones behind them.
+#![tactic(auto)]
+
 ghost use Rattle.std.specs.Prelude.{◌≡◌, ◌++◌, map, ◌+◌, ◌-◌, ◌*◌, ◌<◌, ◌≤◌, length, get_or, take, drop};
 ghost use Rattle.record.specs.Record.{nm, plain};
 ghost use Rattle.record.specs.Write.{be, join, name_bytes};
