@@ -1,0 +1,16 @@
+-- `lvn_simplify::is_bool` meets its contract: by what is known.
+use Rattle.numbering.specs.Simplify.{is_bool}
+use Rattle.lvn_simplify.proofs.Folds.{not_bool}
+use Rattle.lvn_simplify.proofs.is_bool.Goals as goal
+
+pub returns-in-Nothing : goal.returns-in-Nothing
+unfolding is_bool
+returns-in-Nothing c = rw c.in-Nothing.is
+
+pub returns-in-Bool : goal.returns-in-Bool
+unfolding is_bool
+returns-in-Bool c = rw (c.in-Is.is, c.in-Bool.is)
+
+pub returns-in_default : goal.returns-in_default
+unfolding is_bool
+returns-in_default c = rw c.in-Is.is ((not_bool c.in-Is.x c.in_default.keys2).1 c.args.c)

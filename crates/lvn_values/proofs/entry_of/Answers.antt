@@ -1,0 +1,31 @@
+-- `lvn_values::entry_of` meets its contract: what stands there for each form is read as the value.
+use Prim.Native.Nat.{ℕ}
+use mathlib.Core.Path.{ap, ◌∙◌}
+use Rattle.lvn_values.specs.declared.Entry.{Entry}
+use Rattle.lvn_values.specs.Table.{packed, expr_at}
+use Rattle.lvn_values.proofs.Entries.{two_entry, one_entry, constant_read, no_entry}
+use Rattle.lvn_values.proofs.entry_of.Goals as goal
+
+pub returns-in-Unique : goal.returns-in-Unique
+returns-in-Unique c = rw c.in-Unique.is (no_entry 0)
+
+pub returns-in-Constant : goal.returns-in-Constant
+returns-in-Constant c = let v = c.v-1.given in
+    rw v.1 (ap (λ (e : Entry). expr_at e.head e.num) c.constant_entry.ensures ∙ constant_read v.0.0)
+
+pub returns-in-One : goal.returns-in-One
+returns-in-One c = let v = c.v-in-One-1.given in
+    let p = c.operation_entry.ensures in
+    let a = v.0.1.0 in
+    rw v.1
+    (ap (λ (e : Entry). expr_at e.head e.num) p.0 ∙
+    ap (λ (k : ℕ). expr_at (packed k a.0 0) 0) c.code1.ensures ∙ one_entry v.0.0 a p.1.0)
+
+pub returns-in-Two : goal.returns-in-Two
+returns-in-Two c = let v = c.v-in-Two-1.given in
+    let p = c.operation_entry-in-Two.ensures in
+    let a = v.0.1.0 in
+    let b = v.0.1.1.0 in
+    rw v.1
+    (ap (λ (e : Entry). expr_at e.head e.num) p.0 ∙
+    ap (λ (k : ℕ). expr_at (packed k a.0 b.0) 0) c.code2.ensures ∙ two_entry v.0.0 a b p.1.0 p.1.1)

@@ -1,0 +1,10 @@
+-- `read_fields::number` meets its contract: by what the field is.
+use mathlib.Core.Path.{sym, ap}
+use Rattle.read_fields.specs.Answer.{res, number}
+use Rattle.read_fields.proofs.number.Goals as goal
+
+pub returns-in-Is : goal.returns-in-Is
+returns-in-Is c = ap (λ n. number (res n)) (sym c.in-Is.is)
+
+pub returns-in-No : goal.returns-in-No
+returns-in-No c = ap (λ n. number (res n)) (sym c.in-No.is)

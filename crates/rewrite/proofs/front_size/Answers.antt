@@ -1,0 +1,20 @@
+-- `rewrite::front_size` meets its contract: the bytes up to the end of the names, B, and the names that are made.
+use native.Mathlib.Omega.{arith}
+use Rattle.record.proofs.Again.{names_lie}
+use Rattle.rewrite.proofs.Known.{few_made, made_named, front_measured}
+use Rattle.rewrite.proofs.front_size.Goals as goal
+
+pub made_size-requires : goal.made_size-requires
+made_size-requires c = let p = c.requires in
+    let m = p.1.0 in
+    (few_made p.0 m, (m.room, (made_named p.0 m, (p.1.1, names_lie p.0))))
+
+pub overflow_add-result-2 : goal.overflow_add-result-2
+overflow_add-result-2 c = let p = c.requires in
+    omega (arith, p.0.near, c.made_size.ensures.1, few_made p.0 p.1.0)
+
+pub returns : goal.returns
+returns c = let p = c.requires in (
+      front_measured p.0 p.1.0 c.made_size.ensures.0,
+      (omega (arith, p.0.near, c.made_size.ensures.1, few_made p.0 p.1.0), omega arith),
+    )

@@ -1,0 +1,38 @@
+-- `rewrite::put_once` meets its contract: the blocks are written, moved up, and the front is written before them.
+use Prim.Native.Nat.{◌+◌, ◌-◌}
+use mathlib.Core.Path.{refl}
+use native.Mathlib.Omega.{arith}
+use Rattle.record.proofs.Again.{names_on}
+use Rattle.rewrite.specs.Parts.{rewriting_in}
+use Rattle.rewrite.proofs.Parts.{parts_size, parts_moved}
+use Rattle.rewrite.proofs.put_once.Goals as goal
+
+pub front_size-at-requires : goal.front_size-at-requires
+front_size-at-requires c = let p = c.requires in
+    (p.0.reads, (c.put_blocks-b.ensures.1.0, p.1.0))
+
+pub move_up-requires : goal.move_up-requires
+move_up-requires c = let n = c.put_blocks-b.result.at.q - (c.args.end + 2) in
+    let f = c.front_size-at.ensures in
+    let size = parts_size (rewriting_in c.args.s.now) 0 c.front_size-at.result n f.0
+    (omega (arith, c.put_blocks-b.ensures.0.end)) in
+    (f.1.1, omega (arith, size, c.requires.1.1, c.put_blocks-b.auto))
+
+pub overflow_sub-at : goal.overflow_sub-at
+overflow_sub-at c = omega (arith, c.front_size-at.ensures.1.1, names_on c.requires.0.reads)
+
+pub put_front-requires : goal.put_front-requires
+put_front-requires c = let p = c.requires in
+    (p.0.reads, (c.put_blocks-b.ensures.1.0, p.1.0))
+
+pub returns : goal.returns
+returns c = let R = rewriting_in c.args.s.now in
+    let n = c.put_blocks-b.result.at.q - (c.args.end + 2) in
+    let b = c.put_blocks-b.ensures in
+    let f = c.front_size-at.ensures in (
+      parts_size R 0 c.front_size-at.result n f.0 (omega (arith, b.0.end)),
+      (
+        b.1.0.many,
+        parts_moved R _ _ b.0 f.0 f.1.1 c.requires.1.1 c.move_up.ensures c.put_front.ensures.0.out refl,
+      ),
+    )

@@ -1,0 +1,30 @@
+-- `rewrite::rewrite_measured` meets its contract: the size decides, and a record that has room is written.
+use native.Mathlib.Omega.{arith}
+use Rattle.rewrite.proofs.Answers.{room_result, room_output, written_result, written_output}
+use Rattle.rewrite.proofs.rewrite_measured.Goals as goal
+
+pub returns-then-out-size : goal.returns-then-out-size
+returns-then-out-size c = let out = c.args.out.now in
+    let m = c.measure-size.ensures in
+    (room_result _ _ m.0 out c.if-out-size.true, room_output _ _ m.0 out c.if-out-size.true)
+
+pub put_record-requires : goal.put_record-requires
+put_record-requires c = let p = c.requires in
+    let k = c.measure-size.auto in
+    let r = c.measure-size.ensures in (
+      record {
+        reads = p.0.reads;
+        types = p.0.types;
+        heads = omega (arith, p.0.heads, k);
+        nums = omega (arith, p.0.nums, k);
+        names = omega (arith, p.0.names, k);
+      },
+      (p.1, (r.1.0, (r.0, r.1.1.0))),
+    )
+
+pub returns : goal.returns
+returns c = let out = c.args.out.now in
+    let m = c.measure-size.ensures in (
+      written_result _ _ m.0 out c.if-out-size.false m.1.0.many,
+      written_output _ _ m.0 out c.if-out-size.false c.put_record.ensures,
+    )

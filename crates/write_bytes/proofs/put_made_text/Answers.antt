@@ -1,0 +1,18 @@
+-- `write_bytes::put_made_text` meets its contract: its parts, one behind the other.
+use Prim.Native.Nat.{◌≤◌}
+use native.Mathlib.Omega.{arith}
+use lib.ListN.{length, take, drop}
+use Rattle.numbering.specs.Made.{digits}
+use Rattle.numbering.proofs.Digits.{digits_few}
+use Rattle.write_bytes.proofs.Stand.{stand_wrote}
+use Rattle.write_bytes.proofs.Made.{text_wrote}
+use Rattle.write_bytes.proofs.put_made_text.Goals as goal
+
+pub returns : goal.returns
+returns c = let a = c.args in
+    let t = take a.n (drop a.from a.src.now) in
+    let d = stand_wrote (digits a.k) c.put_digits.ensures.0 in
+    let few : length (digits a.k) ≤ 10 = digits_few a.k 9 (omega arith) in (
+      text_wrote t a.k c.put_u8.ensures c.copy_bytes-p.ensures.0 c.put_u32.ensures d,
+      omega (arith, d.end, c.copy_bytes-p.ensures.1),
+    )
