@@ -162,11 +162,16 @@ seen_kept (y ∷ ys) s x n p = go (λ s p. seen_kept ys s x n p) (s.env y) refl
 
 pub seen_all : (xs : List NameIx) (s : State) → Seen (gen_new_vals s xs) xs
 unfolding gen_new_vals see new_number
-seen_all xs s x (first {xs = ys}) = go (s.env x) refl
+seen_all xs s x h = by x xs h s
   where
-    go : (o : Option ValNum) → s.env x ≡ o → (n : ValNum) × ((gen_new_vals (see_at s x o) ys).env x ≡ some n)
-    go none e =
+    go :
+        (x : NameIx) (ys : List NameIx) (s : State) (o : Option ValNum) → s.env x ≡ o →
+        (n : ValNum) × ((gen_new_vals (see_at s x o) ys).env x ≡ some n)
+    go x ys s none e =
         let n : ValNum = vn s.next in
         (n, seen_kept ys (new_number s x none) x n (upd_same NameIx-discrete s.env x (some n) x refl))
-    go (some m) e = (m, seen_kept ys s x m e)
-seen_all xs s x (later {y = y} {xs = ys} h) = seen_all ys (see s y) x h
+    go x ys s (some m) e = (m, seen_kept ys s x m e)
+
+    by : (x : NameIx) (xs : List NameIx) → Elem x xs → (s : State) → (n : ValNum) × ((gen_new_vals s xs).env x ≡ some n)
+    by x xs (first {xs = ys}) s = go x ys s (s.env x) refl
+    by x xs (later {y = y} {xs = ys} k) s = by x ys k (see s y)

@@ -61,17 +61,20 @@ number_stops :
     number j.env₂ e ≡ some u →
     Has j'.vals u n →
     eval ρ u ≡ stops c
-number_stops Γ j j' ρ σ₁ σ₂ e w u n c R (old h) p q k =
-    let (v, r, s) = has_value ρ j.vals R.fits w n h (stops_not_unset p) in
-    absurd (ok_not_stops r p)
-number_stops Γ j j' ρ σ₁ σ₂ e w u n c R fresh_value p q k =
-    has_next j.vals (vn j.next) (vn j.next) w u refl (λ r. absurd (unnumbered r)) (λ r. ap (eval ρ) r ∙ p) k
+number_stops Γ j j' ρ σ₁ σ₂ e w u n c R numbered p q k = by w n j' numbered p k
   where
     unnumbered : u ≡ one Id (vn j.next) → ⊥
     unnumbered r =
         let (x, g) = number_copy j.env₂ e (vn j.next) (q ∙ ap some r) in
         let l = R.second x (vn j.next) g in
         none-ne-some l.value (sym (R.unused (vn j.next) (omega arith)) ∙ l.valued)
+
+    by : (z : Expr ValNum) (m : ValNum) (i : Joint) → Numbers j z m i → eval ρ z ≡ stops c → Has i.vals u m → eval ρ u ≡ stops c
+    by z m i (old h) f g =
+        let (v, r, s) = has_value ρ j.vals R.fits z m h (stops_not_unset f) in
+        absurd (ok_not_stops r f)
+    by z m i fresh_value f g =
+        has_next j.vals (vn j.next) (vn j.next) z u refl (λ r. absurd (unnumbered r)) (λ r. ap (eval ρ) r ∙ f) g
 
 -- the first operation numbers its value as w, with the number n; the second has that number
 pub pair_results :

@@ -119,15 +119,18 @@ pub numbers_valued :
     T (in_range v) →
     Related Γ j ρ σ₁ σ₂ →
     Valued Γ j' ρ σ₁ σ₂ n v
-numbers_valued Γ j j' ρ σ₁ σ₂ w n v (old h) p r R =
-    let (x, q, s) = has_value ρ j.vals R.fits w n h (ok_not_unset p) in
-    record { ρ' = ρ; grows = λ m y g. g; related = R; valued = same x (sym q ∙ p) s }
+numbers_valued Γ j j' ρ σ₁ σ₂ w n v numbered p r R = by w n j' numbered p
   where
-    same : (x : Val) → ok x ≡ ok v → ρ n ≡ some x → ρ n ≡ some v
-    same x e f = cc
-numbers_valued Γ j j' ρ σ₁ σ₂ w n v fresh_value p r R =
-    push_valued Γ j ρ σ₁ σ₂ R v (some w) r
-    (λ u q. subst (λ (z : Expr ValNum). eval ρ z ≡ ok v) (some-injective w u q) p)
+    same : (k : ValNum) (x : Val) → ok x ≡ ok v → ρ k ≡ some x → ρ k ≡ some v
+    same k x e f = cc
+
+    by : (u : Expr ValNum) (k : ValNum) (i : Joint) → Numbers j u k i → eval ρ u ≡ ok v → Valued Γ i ρ σ₁ σ₂ k v
+    by u k i (old h) q =
+        let (x, e, s) = has_value ρ j.vals R.fits u k h (ok_not_unset q) in
+        record { ρ' = ρ; grows = λ m y g. g; related = R; valued = same k x (sym e ∙ q) s }
+    by u k i fresh_value q =
+        push_valued Γ j ρ σ₁ σ₂ R v (some u) r
+        (λ z e. subst (λ (y : Expr ValNum). eval ρ y ≡ ok v) (some-injective u z e) q)
 
 -- ---- a name takes a number
 -- d takes the number n, whose value the store σ' holds there; elsewhere it is σ

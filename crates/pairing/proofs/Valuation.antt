@@ -103,8 +103,11 @@ number_eval t env σ ρ l (two o a b) v p =
 
 -- what holds of all names of a list holds of each
 pub all_elem : (P : NameIx → Type 0) (xs : List NameIx) → All P xs → (x : NameIx) → Elem x xs → P x
-all_elem P xs h x (first {xs = ys}) = h.0
-all_elem P xs h x (later {xs = ys} e) = all_elem P ys h.1 x e
+all_elem P xs h x e = here x xs e h
+  where
+    here : (y : NameIx) (ys : List NameIx) → Elem y ys → All P ys → P y
+    here y ys (first {xs = zs}) g = g.0
+    here y ys (later {xs = zs} k) g = here y zs k g.1
 
 -- which name of one, or of two, is meant
 pub elem_one : {P : Type 0} {x a : NameIx} → Elem x (a ∷ []) → (a ≡ x → P) → P

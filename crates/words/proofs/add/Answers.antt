@@ -4,4 +4,4 @@ use Rattle.words.proofs.add.Goals as goal
 
 pub returns : goal.returns
 unfolding add_w
-returns c = c.wrapping_add_u64.ensures
+returns c = c.wrapping_add_u64.ensures.value

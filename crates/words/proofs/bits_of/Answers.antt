@@ -4,16 +4,11 @@ use mir.Facts.{Fits-of_z}
 use Rattle.words.proofs.Bits.{high, low, to_z_low, flipped}
 use Rattle.words.proofs.bits_of.Goals as goal
 
--- the complement's bits, where x is below zero
-
-flip : (c : tie.Then1) → to_z w64 (2 ^ 64 - 1 - of_z w64 c.before.args.x) ≡ pos (2 ^ 64 - 1 - of_z w64 c.before.args.x)
-flip c = flipped _ (high _ c.if1.true) (Fits-of_z c.before.ranges.x).fits
-
 pub overflow_cast-result : goal.overflow_cast-result
-overflow_cast-result c = rw (flip c) (tt, record { fits = omega arith })
+overflow_cast-result c = rw (flipped _ (high _ c.if-x-lt0.true) (Fits-of_z c.ranges.x).fits) (tt, record { fits = omega arith })
 
 pub overflow_sub-result : goal.overflow_sub-result
-overflow_sub-result c = rw (flip c) (omega arith)
+overflow_sub-result c = rw (flipped _ (high _ c.if-x-lt0.true) (Fits-of_z c.ranges.x).fits) (omega arith)
 
 pub overflow_cast-result-else-x-lt0 : goal.overflow_cast-result-else-x-lt0
 overflow_cast-result-else-x-lt0 c = rw (to_z_low _ (low _ c.if-x-lt0.false)) (tt, Fits-of_z c.ranges.x)
@@ -21,7 +16,7 @@ overflow_cast-result-else-x-lt0 c = rw (to_z_low _ (low _ c.if-x-lt0.false)) (tt
 pub returns-then-x-lt0 : goal.returns-then-x-lt0
 returns-then-x-lt0 c = let h = high (of_z w64 c.args.x) c.if-x-lt0.true in
     let f = Fits-of_z c.ranges.x in
-    rw (flip c) (omega arith)
+    rw (flipped _ (high _ c.if-x-lt0.true) (Fits-of_z c.ranges.x).fits) (omega arith)
 
 pub returns-else-x-lt0 : goal.returns-else-x-lt0
 returns-else-x-lt0 c = rw (to_z_low _ (low _ c.if-x-lt0.false))

@@ -5,4 +5,4 @@ use Rattle.words.proofs.sub.Goals as goal
 
 pub returns : goal.returns
 returns c = let d = c.wrapping_sub_u64 in
-    difference d.result c.args.a c.args.b (omega arith) (omega arith) (omega arith) d.ensures
+    difference d.result c.args.a c.args.b (omega arith) (omega arith) (omega arith) d.ensures.value
