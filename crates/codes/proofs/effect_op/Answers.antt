@@ -22,4 +22,4 @@ unfolding op_of one_of two_of with_code code1 code2
 returns-in-69 c = ap op_of (sym c.in-69.is)
 
 pub returns-in_default : goal.returns-in_default
-returns-in_default c = let r = c.in_default.rest in effect_op c.args.code c.requires r.0.0.0.1 r.0.0.1 r.0.1 r.1
+returns-in_default c = let r = c.in_default.in_default-own.rest in effect_op c.args.code c.requires r.0.0.0.1 r.0.0.1 r.0.1 r.1

@@ -9,11 +9,8 @@ use Rattle.record.specs.Answer.{literal_of}
 use Rattle.codes.proofs.Literal.{lit_same}
 use Rattle.codes.proofs.float_literal.Goals as goal
 
-number : (c : tie.Else1) → nan_bits binary64 c.before.args.b ≡ false
-number c = nan_bits_above binary64 c.before.args.b ∙ le-ltb _ _ c.if1.false
-
 pub float_from_bits-result : goal.float_from_bits-result
-float_from_bits-result c = rw (number c) tt
+float_from_bits-result c = rw (nan_bits_above binary64 c.args.b ∙ le-ltb _ _ c.if-m-gt9218868437227405312.false) tt
 
 pub returns-then-m-gt9218868437227405312 : goal.returns-then-m-gt9218868437227405312
 unfolding literal_of
@@ -22,5 +19,5 @@ returns-then-m-gt9218868437227405312 c = refl
 pub returns-else-m-gt9218868437227405312 : goal.returns-else-m-gt9218868437227405312
 unfolding literal_of
 returns-else-m-gt9218868437227405312 c = let b = c.args.b in
-    let n : is_nan (of_bits binary64 b) ≡ false = sym (nan_bits_is binary64 b) ∙ number c in
+    let n : is_nan (of_bits binary64 b) ≡ false = sym (nan_bits_is binary64 b) ∙ nan_bits_above binary64 c.args.b ∙ le-ltb _ _ c.if-m-gt9218868437227405312.false in
     lit_same refl (to_bits-of_bits binary64 b (search rules) (rw n tt))

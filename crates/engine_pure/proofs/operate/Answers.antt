@@ -1,4 +1,5 @@
 -- `engine_pure::operate` meets its contract: by the codes of one and of two operands.
+use borrow.Enum.Refused.{opened}
 use Prim.Native.Nat.{◌≤◌}
 use mathlib.Core.Path.{◌≡◌, ap}
 use native.Mathlib.Omega.{arith}
@@ -28,7 +29,7 @@ of_ints-requires c = let h = c.requires.0.0 in
     )
 
 pub of_bools-requires : goal.of_bools-requires
-of_bools-requires c = let h : 11 ≤ c.args.code = omega (arith, c.if-code-lt10.false, c.in_default-1.rest) in
+of_bools-requires c = let h : 11 ≤ c.args.code = omega (arith, c.if-code-lt10.false, (opened c.in_default-1.in_default-1-own.rest)) in
     let l : c.args.code ≤ 12 = omega (arith, c.if-code-lt13.true) in (
       (h, l),
       lies c.args.code 2 c.args.s.now c.args.at c.args.cells.now

@@ -1,4 +1,5 @@
 -- `lvn_instr::make_val` meets its contract: by the operation.
+use borrow.Enum.Refused.{opened}
 use Prim.Native.Nat.{ℕ}
 use mathlib.Core.Path.{sym, ap, ◌∙◌, subst}
 use Rattle.record.specs.Answer.{literal_of}
@@ -31,4 +32,4 @@ returns-in-Two c = (
     )
 
 pub returns-in_default : goal.returns-in_default
-returns-in_default c = ((λ s types h e. new_arm c.args.t5 c.requires.0 s types c.in_default.keys4), tt)
+returns-in_default c = ((λ s types h e. new_arm c.args.t5 c.requires.0 s types (opened c.in_default.in_default-own.keys4)), tt)

@@ -1,4 +1,5 @@
 -- `lvn_simplify::fold_bools` meets its contract: by the operator.
+use borrow.Enum.Refused.{opened}
 use Rattle.arith.specs.Operation.{as_bool, with_both, apply2}
 use Rattle.numbering.specs.Simplify.{folded}
 use Rattle.lvn_simplify.proofs.Others.{no_fold}
@@ -14,4 +15,4 @@ returns-in-Or c = rw c.in-Or.is
 
 pub returns-in_default : goal.returns-in_default
 unfolding folded apply2 with_both as_bool
-returns-in_default c = let a = c.args in no_fold a.x a.y a.o c.in_default.keys3
+returns-in_default c = let a = c.args in no_fold a.x a.y a.o (opened c.in_default.in_default-own.keys3)

@@ -1,4 +1,5 @@
 -- `lvn_simplify::fold_not` meets its contract: by the constant.
+use borrow.Enum.Refused.{opened}
 use Rattle.arith.specs.Operation.{as_bool, with_one, apply1}
 use Rattle.numbering.specs.Simplify.{folded}
 use Rattle.lvn_simplify.proofs.Folds.{not_bool}
@@ -10,4 +11,4 @@ returns-in-Bool c = rw c.in-Bool.is
 
 pub returns-in_default : goal.returns-in_default
 unfolding folded apply1 with_one as_bool
-returns-in_default c = (not_bool c.args.x c.in_default.keys2).2
+returns-in_default c = (not_bool c.args.x (opened c.in_default.in_default-own.keys2)).2

@@ -33,4 +33,4 @@ returns-in-PtrAdd c = let a = c.args in
 pub returns-in_default : goal.returns-in_default
 unfolding identity
 returns-in_default c = let a = c.args in
-    no_identity (known_of a.ka) (known_of a.kb) a.a a.b a.o c.in_default.keys7
+    no_identity (known_of a.ka) (known_of a.kb) a.a a.b a.o c.in_default.in_default-own.keys7

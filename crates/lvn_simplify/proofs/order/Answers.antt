@@ -35,4 +35,4 @@ returns-in-Or c = c.sort_val_nums-in-Or.ensures ∙ rw c.in-Or.is
 
 pub returns-in_default : goal.returns-in_default
 unfolding ordered
-returns-in_default c = let a = c.args in ap some (as_it_stands a.a a.b a.o c.in_default.keys8)
+returns-in_default c = let a = c.args in ap some (as_it_stands a.a a.b a.o c.in_default.in_default-own.keys8)

@@ -1,4 +1,5 @@
 -- `lvn_state::writes_home` meets its contract: only an id can be `x = id x`.
+use borrow.Enum.Refused.{opened}
 use mathlib.Core.Path.{ap}
 use lib.Dec.{eqb}
 use Rattle.record.specs.declared.NameIx.{NameIx}
@@ -17,4 +18,4 @@ returns-in-Not c = rw (c.in-One.is, c.in-Not.is)
 
 pub returns-in_default : goal.returns-in_default
 unfolding itself
-returns-in_default c = let a = c.args in not_itself (locs_of a.homes.now) a.dest a.v c.in_default.keys2
+returns-in_default c = let a = c.args in not_itself (locs_of a.homes.now) a.dest a.v (opened c.in_default.in_default-own.keys2)

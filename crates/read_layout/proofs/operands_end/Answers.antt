@@ -7,14 +7,11 @@ use Rattle.read_layout.proofs.operands_end.Goals as goal
 
 -- a number of one byte
 
-few : (c : tie.After-targets) → c.targets.result < 256
-few c = c.targets.ensures.1 c.before.before.before.before.count_from.ensures.1
-
 pub overflow_mul-result : goal.overflow_mul-result
-overflow_mul-result c = record { fits = omega (arith, few c) }
+overflow_mul-result c = record { fits = omega (arith, c.targets.ensures.1 c.count_from-n.ensures.1) }
 
 pub overflow_add-result : goal.overflow_add-result
-overflow_add-result c = record { fits = omega (arith, few c) }
+overflow_add-result c = record { fits = omega (arith, c.targets.ensures.1 c.count_from-n.ensures.1) }
 
 pub returns : goal.returns
 returns c = (
@@ -22,7 +19,7 @@ returns c = (
           c.past_if-callee.ensures.0 c.past_if-blocks.ensures.0 c.targets.ensures.0 refl,
       omega (
         arith,
-        few c,
+        c.targets.ensures.1 c.count_from-n.ensures.1,
         c.past_if-literal.ensures.1,
         c.past_if-count.ensures.1,
         c.count_from-n.ensures.1,
