@@ -37,6 +37,6 @@ returns-in-3 c = let a = c.args in
     by_stop a.s.now a.t.spot 3 (omega (arith, c.if-t-gt0.false)) c.in-3.is
 
 pub returns-in_default : goal.returns-in_default
-returns-in_default c = let r = (opened c.in_default.in_default-own.rest) in
+returns-in_default c = let r = c.in_default.in_default-own.rest in
     by_division c.args.s.now c.args.t.spot _ (c.read_id.ensures.0 ∙ ap (num_at c.args.s.now _) c.requires.0)
     (omega (arith, c.if-t-gt0.false)) r.0.0.0.1 r.0.0.1 r.0.1 r.1

@@ -10,22 +10,19 @@ pub returns-in-Unique : goal.returns-in-Unique
 returns-in-Unique c = rw c.in-Unique.is (no_entry 0)
 
 pub returns-in-Constant : goal.returns-in-Constant
-returns-in-Constant c = let v = c.v-1.given in
-    rw v.1 (ap (λ (e : Entry). expr_at e.head e.num) c.constant_entry.ensures ∙ constant_read v.0.0)
+returns-in-Constant c = rw c.in-Constant.is (ap (λ (e : Entry). expr_at e.head e.num) c.constant_entry.ensures ∙ constant_read c.in-Constant.c)
 
 pub returns-in-One : goal.returns-in-One
-returns-in-One c = let v = c.v-in-One-1.given in
-    let p = c.operation_entry.ensures in
-    let a = v.0.1.0 in
-    rw v.1
+returns-in-One c = let p = c.operation_entry.ensures in
+    let a = c.in-One.a in
+    rw c.in-One.is
     (ap (λ (e : Entry). expr_at e.head e.num) p.0 ∙
-    ap (λ (k : ℕ). expr_at (packed k a.0 0) 0) c.code1.ensures ∙ one_entry v.0.0 a p.1.0)
+    ap (λ (k : ℕ). expr_at (packed k a.0 0) 0) c.code1.ensures ∙ one_entry c.in-One.o a p.1.0)
 
 pub returns-in-Two : goal.returns-in-Two
-returns-in-Two c = let v = c.v-in-Two-1.given in
-    let p = c.operation_entry-in-Two.ensures in
-    let a = v.0.1.0 in
-    let b = v.0.1.1.0 in
-    rw v.1
+returns-in-Two c = let p = c.operation_entry-in-Two.ensures in
+    let a = c.in-Two.a in
+    let b = c.in-Two.b in
+    rw c.in-Two.is
     (ap (λ (e : Entry). expr_at e.head e.num) p.0 ∙
-    ap (λ (k : ℕ). expr_at (packed k a.0 b.0) 0) c.code2.ensures ∙ two_entry v.0.0 a b p.1.0 p.1.1)
+    ap (λ (k : ℕ). expr_at (packed k a.0 b.0) 0) c.code2.ensures ∙ two_entry c.in-Two.o a b p.1.0 p.1.1)

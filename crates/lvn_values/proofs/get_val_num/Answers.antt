@@ -1,5 +1,4 @@
 -- `lvn_values::get_val_num` meets its contract: what is new each time and an id are not looked up.
-use borrow.Enum.Refused.{opened}
 use mathlib.Core.Option.{Option, some}
 use mathlib.Core.Path.{sym, ap, ◌∙◌}
 use Rattle.arith.specs.declared.One.{One}
@@ -31,6 +30,6 @@ returns-in-Not c = λ s p q.
 pub returns-in_default : goal.returns-in_default
 returns-in_default c = λ s p q.
     let a = c.args in
-    looked_up s _ a.v (opened c.in_default.in_default-own.keys3)
+    looked_up s _ a.v c.in_default.in_default-own.keys3
     (λ e h. c.look_up-in_default.ensures e (c.entry_of-in_default.ensures ∙ h) ∙
     ap (λ (f : ValNum → Option (Expr ValNum)). find f e 0 a.count) (sym p) ∙ ap (find s.vals e 0) (sym q))
