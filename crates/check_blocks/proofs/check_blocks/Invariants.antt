@@ -6,7 +6,7 @@ use Rattle.record.specs.Read.{block}
 use Rattle.check_blocks.proofs.check_blocks.Given as goal
 
 abbrev pub invariant-loop-left : goal.invariant-loop-left
-invariant-loop-left l = (verdict (times l.left (λ l.left. block l.lim l.w l.n l.b) l.s l.p) ≡ verdict (times l.b (λ l.left. block l.lim l.w l.n l.b) l.s l.at))
+invariant-loop-left l = (verdict (times l.left (λ _. block l.lim l.w l.n l.b) l.s l.p) ≡ verdict (times l.b (λ _. block l.lim l.w l.n l.b) l.s l.at))
 
 abbrev pub decreases-loop-left : goal.decreases-loop-left
 decreases-loop-left l = l.left

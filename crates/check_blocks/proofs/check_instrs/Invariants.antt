@@ -7,8 +7,8 @@ use Rattle.record.specs.Read.{instr}
 use Rattle.check_blocks.proofs.check_instrs.Given as goal
 
 abbrev pub invariant-loop-left : goal.invariant-loop-left
-invariant-loop-left l = (verdict (times l.left (λ l.left. instr l.w l.n l.b (eqb l.left 0)) l.s l.p) ≡
-    verdict (times l.count (λ l.left. instr l.w l.n l.b (eqb l.left 0)) l.s l.at))
+invariant-loop-left l = (verdict (times l.left (λ k. instr l.w l.n l.b (eqb k 0)) l.s l.p) ≡
+    verdict (times l.count (λ k. instr l.w l.n l.b (eqb k 0)) l.s l.at))
 
 abbrev pub decreases-loop-left : goal.decreases-loop-left
 decreases-loop-left l = l.left

@@ -12,7 +12,7 @@ pub returns-then-not-text_byte : goal.returns-then-not-text_byte
 returns-then-not-text_byte c = let w = c.loop-left in
     let s = c.args.s.now in
     text_stopped s w.p w.left _ c.loop-left-test.true w.invariant.0 c.byte_or.ensures.0
-    (sym c.text_byte.ensures ∙ not-true _ c.if-not-text_byte.true)
+    (sym c.text_byte.ensures ∙ c.if-not-text_byte.true)
     ∙ w.invariant.1
 
 pub loop-left-preserved : goal.loop-left-preserved
@@ -20,7 +20,7 @@ loop-left-preserved c = let w = c.loop-left in
     let s = c.args.s.now in (
       omega arith,
       text_went s w.p w.left _ c.loop-left-test.true w.invariant.0 c.byte_or.ensures.0
-          (sym c.text_byte.ensures ∙ not-false _ c.if-not-text_byte.false)
+          (sym c.text_byte.ensures ∙ c.if-not-text_byte.false)
           ∙ w.invariant.1,
     )
 

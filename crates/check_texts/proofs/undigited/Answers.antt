@@ -12,7 +12,7 @@ pub returns-then-not-digit : goal.returns-then-not-digit
 returns-then-not-digit c = let w = c.loop-e in
     let a = c.args in
     digits_stopped a.s.now a.t a.n w.e _ c.loop-e-test.true w.invariant.0 c.byte_or.ensures.0
-    (sym c.digit.ensures ∙ not-true _ c.if-not-digit.true)
+    (sym c.digit.ensures ∙ c.if-not-digit.true)
     ∙ w.invariant.1
 
 pub loop-e-preserved : goal.loop-e-preserved
@@ -20,7 +20,7 @@ loop-e-preserved c = let w = c.loop-e in
     let a = c.args in (
       omega arith,
       digits_went a.s.now a.t a.n w.e _ c.loop-e-test.true w.invariant.0 c.byte_or.ensures.0
-          (sym c.digit.ensures ∙ not-false _ c.if-not-digit.false)
+          (sym c.digit.ensures ∙ c.if-not-digit.false)
           ∙ w.invariant.1,
     )
 

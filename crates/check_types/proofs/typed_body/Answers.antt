@@ -10,7 +10,7 @@ loop-left-init c = (omega arith, refl)
 
 pub returns-then-not-typed_at : goal.returns-then-not-typed_at
 returns-then-not-typed_at c = (
-      body_broke _ _ _ _ _ c.loop-left-test.true _ c.typed_at.ensures (not-true _ c.if-not-typed_at.true) ∙ c.loop-left.invariant.1,
+      body_broke _ _ _ _ _ c.loop-left-test.true _ c.typed_at.ensures (c.if-not-typed_at.true) ∙ c.loop-left.invariant.1,
       λ q e. no_place _ _ _ q e,
     )
 
@@ -18,7 +18,7 @@ pub loop-left-preserved : goal.loop-left-preserved
 loop-left-preserved c = (
       omega (arith, c.loop-left.invariant.0, c.instr_end-p.ensures.1),
       body_went _ _ _ _ _ c.loop-left-test.true _ _
-          c.typed_at.ensures (not-false _ c.if-not-typed_at.false) c.instr_end-p.ensures.0
+          c.typed_at.ensures (c.if-not-typed_at.false) c.instr_end-p.ensures.0
           ∙ c.loop-left.invariant.1,
     )
 

@@ -12,7 +12,7 @@ pub read_store-requires : goal.read_store-requires
 read_store-requires c = (blank, c.requires.0.few)
 
 pub returns-then-not-read_store : goal.returns-then-not-read_store
-returns-then-not-read_store c = store_refused _ _ _ _ _ _ _ c.requires.0 c.requires.1 c.read_store.ensures (not-true _ c.if-not-read_store.true) _ _
+returns-then-not-read_store c = store_refused _ _ _ _ _ _ _ c.requires.0 c.requires.1 c.read_store.ensures (c.if-not-read_store.true) _ _
 
 pub steps-t-requires : goal.steps-t-requires
 steps-t-requires c = (
@@ -32,7 +32,7 @@ steps-t-requires c = (
 pub returns-then-t-eq-UNFIT : goal.returns-then-t-eq-UNFIT
 returns-then-t-eq-UNFIT c = let begun = c.requires.1 in
     unfit_told
-    (fed _ _ _ _ _ _ _ c.requires.0 begun c.read_store.ensures (not-false _ c.if-not-read_store.false))
+    (fed _ _ _ _ _ _ _ c.requires.0 begun c.read_store.ensures (c.if-not-read_store.false))
     begun.waits begun.first c.steps.ensures c.telling-first.ensures c.steps-t.ensures _ _ c.if-t-eq-UNFIT.true
 
 pub put_store-size-requires : goal.put_store-size-requires
@@ -41,7 +41,7 @@ put_store-size-requires c = c.requires.0.few
 pub returns-then-events-t : goal.returns-then-events-t
 returns-then-events-t c = let begun = c.requires.1 in
     room_told
-    (fed _ _ _ _ _ _ _ c.requires.0 begun c.read_store.ensures (not-false _ c.if-not-read_store.false))
+    (fed _ _ _ _ _ _ _ c.requires.0 begun c.read_store.ensures (c.if-not-read_store.false))
     begun.waits begun.first c.steps.ensures c.telling-first.ensures c.steps-t.ensures _ _ c.if-t-eq-UNFIT.false
     c.put_store-size.ensures c.if-events-t.true
 
@@ -72,6 +72,6 @@ ending-requires c = (c.id_width-w.ensures.0, omega (arith, spot_inside _ _ _ _ c
 pub returns : goal.returns
 returns c = let begun = c.requires.1 in
     done_told
-    (fed _ _ _ _ _ _ _ c.requires.0 begun c.read_store.ensures (not-false _ c.if-not-read_store.false))
+    (fed _ _ _ _ _ _ _ c.requires.0 begun c.read_store.ensures (c.if-not-read_store.false))
     begun.waits begun.first c.steps.ensures c.telling-first.ensures c.steps-t.ensures _ _ c.if-t-eq-UNFIT.false
     c.put_store-size.ensures c.if-events-t.false c.steps-2.ensures c.put_store.ensures c.ending.ensures

@@ -76,7 +76,7 @@ returns-then-not-takes c = let a = c.args in
     c.requires.1.1.0 c.requires.1.1.1.1.1.0 c.requires.1.1.1.1.1.1 (omega (arith, c.if-t-eq0.false))
     kind.result end.result kind.ensures.0 end.ensures.0 end.ensures.1
     a.w code.result c.requires.1.1.1.1.0 code.ensures.0 c.takes.result c.takes.ensures.0 _
-    (not-true c.takes.result c.if-not-takes.true))
+    (c.if-not-takes.true))
 
 pub instr_end-requires : goal.instr_end-requires
 instr_end-requires c = let n = near c in (n.0, omega (arith, n.1))
@@ -100,10 +100,10 @@ returns c = let a = c.args in
     let kind = c.byte_or-kind in
     let code = c.byte_or in
     let next = c.instr_end in
-    let f = not-false c.takes.result c.if-not-takes.false in
+    let f = c.if-not-takes.false in
     subst
     (λ (u : Turn). Answered a.s.now a.types.now a.starts.now a.list.now a.cells.now
-    c.takes.new.1.1.1.1.1.1.0 a.event a.t (record { spot = c.onward.result; more = a.t.more; answer = u.answer; answers = u.answers; event = a.event; tells = a.t.tells }))
+    c.takes.new.cells a.event a.t (record { spot = c.onward.result; more = a.t.more; answer = u.answer; answers = u.answers; event = a.event; tells = a.t.tells }))
     (sym c.taken-u.ensures)
     (answered_goes a.s.now a.types.now a.starts.now a.list.now a.cells.now a.event a.t c.requires.1.0
     c.requires.1.1.0 c.requires.1.1.1.1.1.0 c.requires.1.1.1.1.1.1 (omega (arith, c.if-t-eq0.false))

@@ -40,8 +40,7 @@ returns-then-not-has_type c = let b = c.byte_or-kind in
     let fits = takes_fits a.list.now a.a a.code (type_in a.types.now (index_from a.s.now a.at))
     (store_in a.cells.now) (index_from a.s.now a.at) c.if-code-ge64.false c.requires.1.1.1.0
     (λ e. c.if-kind.false (b.ensures.0 ∙ e)) c.requires.1.1.1.1 c.answer_again-c.result c.answer_again-c.ensures in (
-      sym (fits ∙ ap (λ (k : ℕ). has_type k (cell_value c.answer_again-c.result)) (sym t) ∙ sym c.has_type.ensures ∙ not-true
-          c.has_type.result c.if-not-has_type.true),
+      sym (fits ∙ ap (λ (k : ℕ). has_type k (cell_value c.answer_again-c.result)) (sym t) ∙ sym c.has_type.ensures ∙ c.if-not-has_type.true),
       λ e. clash (cc e),
     )
 
@@ -64,8 +63,7 @@ returns c = let b = c.byte_or-kind in
     let sets = takes_sets a.list.now a.a a.code (type_in a.types.now (index_from a.s.now a.at))
     (store_in a.cells.now) (index_from a.s.now a.at) c.if-code-ge64.false c.requires.1.1.1.0
     (λ e. go (b.ensures.0 ∙ e)) c.requires.1.1.1.1 c.answer_again-c.result c.answer_again-c.ensures in (
-      sym (fits ∙ ap (λ (k : ℕ). has_type k (cell_value c.answer_again-c.result)) (sym t) ∙ sym c.has_type.ensures ∙ not-false
-          c.has_type.result c.if-not-has_type.false),
+      sym (fits ∙ ap (λ (k : ℕ). has_type k (cell_value c.answer_again-c.result)) (sym t) ∙ sym c.has_type.ensures ∙ c.if-not-has_type.false),
       λ e.
           c.set_cell.ensures ∙
           ap (λ (x : NameIx). upd NameIx-discrete (store_in a.cells.now) x (cell_holds c.answer_again-c.result))

@@ -14,12 +14,12 @@ returns-then-alone c = let a = c.args in
 pub returns-then-not-value_type : goal.returns-then-not-value_type
 returns-then-not-value_type c = let a = c.args in
     answer_untyped a.s.now a.at c.if-at-s.false (sym c.alone.ensures ∙ c.if-alone.false)
-    (sym c.value_type.ensures ∙ not-true _ c.if-not-value_type.true)
+    (sym c.value_type.ensures ∙ c.if-not-value_type.true)
 
 pub value_behind-requires : goal.value_behind-requires
-value_behind-requires c = rw (sym c.value_type.ensures ∙ not-false _ c.if-not-value_type.false) tt
+value_behind-requires c = rw (sym c.value_type.ensures ∙ c.if-not-value_type.false) tt
 
 pub returns : goal.returns
 returns c = let a = c.args in
     answer_valued a.s.now a.at c.if-at-s.false (sym c.alone.ensures ∙ c.if-alone.false)
-    (sym c.value_type.ensures ∙ not-false _ c.if-not-value_type.false) _ c.value_behind.ensures.0 c.value_behind.ensures.1
+    (sym c.value_type.ensures ∙ c.if-not-value_type.false) _ c.value_behind.ensures.0 c.value_behind.ensures.1

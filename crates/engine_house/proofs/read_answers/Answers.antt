@@ -7,10 +7,10 @@ use Rattle.engine_house.proofs.Answers.{list_closed, list_start, list_went, list
 use Rattle.engine_house.proofs.read_answers.Goals as goal
 
 pub returns-then-not-opens : goal.returns-then-not-opens
-returns-then-not-opens c = list_closed _ (sym c.opens.ensures.0 ∙ not-true _ c.if-not-opens.true)
+returns-then-not-opens c = list_closed _ (sym c.opens.ensures.0 ∙ c.if-not-opens.true)
 
 pub loop-p-init : goal.loop-p-init
-loop-p-init c = let o = not-false c.opens.result c.if-not-opens.false in
+loop-p-init c = let o = c.if-not-opens.false in
     let e = c.opens.ensures in
     (omega arith, omega arith, list_start _ (sym e.0 ∙ o) (e.1 o))
 

@@ -9,14 +9,14 @@ use Rattle.engine_house.proofs.read_store.Goals as goal
 
 pub returns-then-not-opens : goal.returns-then-not-opens
 returns-then-not-opens c = let a = c.args in
-    store_closed a.s.now a.types.now _ (sym c.opens.ensures.0 ∙ not-true _ c.if-not-opens.true)
+    store_closed a.s.now a.types.now _ (sym c.opens.ensures.0 ∙ c.if-not-opens.true)
 
 pub loop-i-init : goal.loop-i-init
 loop-i-init c = let a = c.args in (
       omega arith,
       c.requires.0.many,
       c.requires.1,
-      store_start a.s.now a.types.now a.cells.now (sym c.opens.ensures.0 ∙ not-false _ c.if-not-opens.false) c.requires.0,
+      store_start a.s.now a.types.now a.cells.now (sym c.opens.ensures.0 ∙ c.if-not-opens.false) c.requires.0,
     )
 
 pub returns-in-No : goal.returns-in-No

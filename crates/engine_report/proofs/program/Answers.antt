@@ -6,7 +6,7 @@ use Rattle.engine_report.proofs.Shown.{shows_refused, too_long, program_shown, f
 use Rattle.engine_report.proofs.program.Goals as goal
 
 pub returns-then-count-gt262144 : goal.returns-then-count-gt262144
-returns-then-count-gt262144 c = shows_refused _ c.put_refused.ensures (omega (arith, c.put_refused.auto.0))
+returns-then-count-gt262144 c = shows_refused _ c.put_refused.ensures (omega (arith, c.put_refused.auto.out))
     (too_long _ (first_many _ _ (omega arith) c.if-count-gt262144.true))
 
 pub slice_bounds-run_input-end : goal.slice_bounds-run_input-end

@@ -8,10 +8,8 @@ use Rattle.record.specs.Record.{Instr, Block, Function}
 use Rattle.read_layout.specs.declared.Layout.{Layout}
 use Rattle.lvn_blocks.proofs.Blocks.{laid_out, going_all, going_none, going_less, alike_less, ask_one, ask_less}
 use Rattle.lvn_blocks.proofs.Heads.{block_figure, figure_fits}
+use Rattle.lvn_blocks.proofs.blocks_lvn.Invariants.{function_of}
 use Rattle.lvn_blocks.proofs.blocks_lvn.Goals as goal
-
-abbrev function_of : Layout → List ℕ → List (Block Instr) → Function
-function_of F ts bs = record { args = F.args; types = ts; blocks = bs }
 
 pub loop-left-init : goal.loop-left-init
 loop-left-init c = (c.requires.1, (omega arith, (refl, ((λ bs. going_all), (refl, (refl, (refl, (refl, refl))))))))
@@ -40,8 +38,8 @@ loop-left-preserved c = let v = c.loop-left in
     let b = d.result in
     let F = a.layout in
     let figure = block_figure (ask_one v.left h v.invariant.0) d.ensures in
-    let e : length d.new.1.1.1.0 ≡ length v.heads = d.auto.1.1.1.0 in
-    let f : length d.new.1.1.1.1.0 ≡ length v.nums = d.auto.1.1.1.1.0 in
+    let e : length d.new.heads ≡ length v.heads = d.auto.heads in
+    let f : length d.new.nums ≡ length v.nums = d.auto.nums in
     let k = v.invariant.1.1.1.1 in (
       ask_less v.left h v.invariant.0 e f d.ensures,
       (
@@ -58,8 +56,8 @@ loop-left-preserved c = let v = c.loop-left in
               (
                 f ∙ k.1.0,
                 (
-                  d.auto.1.1.1.1.1.0 ∙ k.1.1.0,
-                  (c.note_figure.auto.1.0 ∙ k.1.1.1.0, d.auto.1.1.1.1.1.1.0 ∙ k.1.1.1.1),
+                  d.auto.names ∙ k.1.1.0,
+                  (c.note_figure.auto.each ∙ k.1.1.1.0, d.auto.out ∙ k.1.1.1.1),
                 ),
               ),
             ),

@@ -1,12 +1,16 @@
 -- What the loop keeps, and its measure.
-use Prim.Native.Nat.{◌≤◌}
+use Prim.Native.Nat.{ℕ, ◌≤◌}
 use mathlib.Core.List.{List}
 use mathlib.Core.Path.{◌≡◌}
 use lib.ListN.{length}
-use Rattle.record.specs.Record.{Instr, Block}
+use Rattle.record.specs.Record.{Instr, Block, Function}
+use Rattle.read_layout.specs.declared.Layout.{Layout}
 use Rattle.lvn_blocks.specs.Blocks.{BlocksAsk}
 use Rattle.lvn_blocks.proofs.Blocks.{Going}
 use Rattle.lvn_blocks.proofs.blocks_lvn.Given as goal
+
+abbrev pub function_of : Layout → List ℕ → List (Block Instr) → Function
+function_of F ts bs = record { args = F.args; types = ts; blocks = bs }
 
 abbrev pub invariant-loop-left : goal.invariant-loop-left
 invariant-loop-left l = BlocksAsk l.layout l.s l.at l.c l.left l.heads l.nums ×

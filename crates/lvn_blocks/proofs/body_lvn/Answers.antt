@@ -6,16 +6,8 @@ use native.Mathlib.Omega.{arith}
 use lib.ListN.{length}
 use Rattle.lvn_state.specs.View.{state_of}
 use Rattle.lvn_blocks.proofs.Turned.{going_all, going_none, going_less, asks_one, asks_less}
+use Rattle.lvn_blocks.proofs.body_lvn.Invariants.{Kept}
 use Rattle.lvn_blocks.proofs.body_lvn.Goals as goal
-
--- every table keeps its length
-record Kept (e₀ l₀ hs₀ ns₀ m₀ o₀ e l hs ns m o : List ℕ) : Type 0 where
-  env : length e ≡ length e₀
-  homes : length l ≡ length l₀
-  heads : length hs ≡ length hs₀
-  nums : length ns ≡ length ns₀
-  names : length m ≡ length m₀
-  out : length o ≡ length o₀
 
 pub loop-left-init : goal.loop-left-init
 loop-left-init c = (c.requires, (going_all, record { env = refl; homes = refl; heads = refl; nums = refl; names = refl; out = refl }))
@@ -29,24 +21,24 @@ pub loop-left-preserved : goal.loop-left-preserved
 loop-left-preserved c = let v = c.loop-left in
     let h = c.loop-left-test.true in
     let d = c.turn_once-t in
-    let l = d.new.1.1 in
-    let k = d.auto.1.1 in
+    let n = d.new in
+    let k = d.auto in
     let o = v.invariant.1.1 in
-    let env = l.0 in
-    let homes = l.1.0 in
-    let hs = l.1.1.0 in
-    let ns = l.1.1.1.0 in
+    let env = n.env in
+    let homes = n.homes in
+    let hs = n.heads in
+    let ns = n.nums in
     let before = state_of v.env v.homes v.t.st v.heads v.nums in (
-      asks_less v.left h v.invariant.0 env homes hs ns k.0 k.1.0 k.1.1.0 k.1.1.1.0 d.ensures,
+      asks_less v.left h v.invariant.0 env homes hs ns k.env k.homes k.heads k.nums d.ensures,
       (
         going_less v.t d.result before (state_of env homes d.result.st hs ns) v.left h d.ensures v.invariant.1.0,
         record {
-          env = k.0 ∙ o.env;
-          homes = k.1.0 ∙ o.homes;
-          heads = k.1.1.0 ∙ o.heads;
-          nums = k.1.1.1.0 ∙ o.nums;
-          names = k.1.1.1.1.0 ∙ o.names;
-          out = k.1.1.1.1.1.0 ∙ o.out;
+          env = k.env ∙ o.env;
+          homes = k.homes ∙ o.homes;
+          heads = k.heads ∙ o.heads;
+          nums = k.nums ∙ o.nums;
+          names = k.names ∙ o.names;
+          out = k.out ∙ o.out;
         },
       ),
     )

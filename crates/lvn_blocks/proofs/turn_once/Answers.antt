@@ -47,5 +47,5 @@ returns c = let a = c.args in
     let e = c.instr_lvn-e in
     let o = c.put_lines-q.ensures in
     turned a.layout (type_in a.types.now) a.t g.result e.result a.env.now a.homes.now a.heads.now a.nums.now
-    e.new.1.0 e.new.1.1.0 e.new.1.1.1.0 e.new.1.1.1.1.0
+    e.new.env e.new.homes e.new.heads e.new.nums
     (asks_passes 1 (omega arith) c.requires).ok g.ensures e.ensures.0 c.note_save.ensures o.0 o.1

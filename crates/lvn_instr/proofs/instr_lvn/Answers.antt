@@ -27,11 +27,11 @@ make_val-v-requires c = let p = c.requires in
     let hs = a.heads.now in
     let ns = a.nums.now in
     let xs = names_in a.i.count a.i.args in
-    let after = g.new.1.1.1.0 in
-    let t = state_of g.new.1.0 g.new.1.1.0 g.result after ns in
+    let after = g.new.heads in
+    let t = state_of g.new.env g.new.homes g.result after ns in
     let k : g.result.count < length a.homes.now =
     seen_next (length a.env.now) a.env.now a.homes.now a.st hs ns xs t (g.ensures ns) p.1.0.low p.1.1.0 in
-    let h : length after ≡ length hs = g.auto.1.1.1.0 in
+    let h : length after ≡ length hs = g.auto.heads in
     let lh : g.result.count ≤ length after = omega (arith, p.1.1.1.1.heads) in
     let ln : g.result.count ≤ length ns = omega (arith, p.1.1.1.1.nums) in
     (p.0, (lh, ln))
@@ -48,14 +48,14 @@ emit-requires c = let p = c.requires in
     let hs = a.heads.now in
     let ns = a.nums.now in
     let xs = names_in a.i.count a.i.args in
-    let after = g.new.1.1.1.0 in
-    let t = state_of g.new.1.0 g.new.1.1.0 g.result after ns in
+    let after = g.new.heads in
+    let t = state_of g.new.env g.new.homes g.result after ns in
     let s = state_of a.env.now a.homes.now a.st hs ns in
     let k : g.result.count < length a.homes.now =
     seen_next (length a.env.now) a.env.now a.homes.now a.st hs ns xs t (g.ensures ns) p.1.0.low p.1.1.0 in
     let m : g.result.made ≡ a.st.made = seen_temps s xs t (g.ensures ns) in
-    let e : length g.new.1.0 ≡ length a.env.now = g.auto.1.0 in
-    let h : length g.new.1.1.0 ≡ length a.homes.now = g.auto.1.1.0 in
+    let e : length g.new.env ≡ length a.env.now = g.auto.env in
+    let h : length g.new.homes ≡ length a.homes.now = g.auto.homes in
     let d : r.result.dest ≡ a.i.dest = ap (λ (z : Instr). z.dest) (r.ensures.0 t refl refl) in
     let low : r.result.dest.0 < length a.env.now = subst (λ (x : NameIx). x.0 < length a.env.now) (sym d) p.1.0.dest in
     record {
@@ -63,21 +63,21 @@ emit-requires c = let p = c.requires in
       dest = omega (arith, e, low);
       number = omega (arith, h, k);
       made = omega (arith, p.1.1.1.0);
-      tables = tables_kept e h g.auto.1.1.1.0 refl p.1.1.1.1;
+      tables = tables_kept e h g.auto.heads refl p.1.1.1.1;
       operand = c.make_val-v.ensures.1;
     }
 
 pub shape_of-env : goal.shape_of-env
-shape_of-env c = c.emit.auto.1.0 ∙ c.gen_new_vals-s.auto.1.0
+shape_of-env c = c.emit.auto.env ∙ c.gen_new_vals-s.auto.env
 
 pub shape_of-homes : goal.shape_of-homes
-shape_of-homes c = c.emit.auto.1.1.0 ∙ c.gen_new_vals-s.auto.1.1.0
+shape_of-homes c = c.emit.auto.homes ∙ c.gen_new_vals-s.auto.homes
 
 pub shape_of-heads : goal.shape_of-heads
-shape_of-heads c = c.emit.auto.1.1.1.0 ∙ c.gen_new_vals-s.auto.1.1.1.0
+shape_of-heads c = c.emit.auto.heads ∙ c.gen_new_vals-s.auto.heads
 
 pub shape_of-nums : goal.shape_of-nums
-shape_of-nums c = c.emit.auto.1.1.1.1.0
+shape_of-nums c = c.emit.auto.nums
 
 pub returns : goal.returns
 unfolding instr_of
@@ -90,7 +90,7 @@ returns c = let p = c.requires in
     let v = c.make_val-v in
     let r = c.rewrite_instr-j in
     let s = state_of a.env.now a.homes.now a.st hs ns in
-    let t = state_of g.new.1.0 g.new.1.1.0 g.result g.new.1.1.1.0 ns in (
+    let t = state_of g.new.env g.new.homes g.result g.new.heads ns in (
       c.emit.ensures.0 ∙ ap (λ o. by_op a.n t (instr_of r.result) o (expr_of v.result)) r.ensures.1.1 ∙
           instr_by_op a.n types s a.i p.0 t (instr_of r.result) (expr_of v.result)
           (g.ensures ns) (r.ensures.0 t refl refl) (v.ensures.0 t types (refl, refl) (sym c.type_of-t.ensures)),

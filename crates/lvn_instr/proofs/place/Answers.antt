@@ -23,7 +23,7 @@ number_dest-settled-requires c = let a = c.args in
     let q = c.handle_overwrite-saved in
     let n : q.result.state.count ≡ a.st.count =
     ap (λ (z : Saved). z.state.next) (q.ensures [] [] i refl) ∙ overwrite_next a.n s i (expr_of a.v) in
-    let h : length q.new.1.1.0 ≡ length a.homes.now = q.auto.1.1.0 in
+    let h : length q.new.homes ≡ length a.homes.now = q.auto.homes in
     (p.dest, (omega (arith, p.number), (tables_kept refl h refl refl p.tables, id_there (expr_of a.v) p.operand)))
 
 pub choose-requires : goal.choose-requires
@@ -34,22 +34,22 @@ choose-requires c = let a = c.args in
     let e = expr_of a.v in
     let q = c.handle_overwrite-saved in
     let d = c.number_dest-settled in
-    let s = state_of a.env.now q.new.1.1.0 q.result.state a.heads.now a.nums.now in
+    let s = state_of a.env.now q.new.homes q.result.state a.heads.now a.nums.now in
     let n : q.result.state.count ≡ a.st.count =
     ap (λ (z : Saved). z.state.next) (q.ensures [] [] i refl) ∙
     overwrite_next a.n (state_of a.env.now a.homes.now a.st [] []) i e in
     let m : d.result.state.count ≡ (settled s a.i.dest e).next = ap (λ (z : State). z.next) d.ensures.1 in
     let k : (settled s a.i.dest e).next ≤ suc q.result.state.count = settled_next s a.i.dest e in
-    let hs = d.new.1.1.1.0 in
-    let ns = d.new.1.1.1.1.0 in
-    let h : length hs ≡ length a.heads.now = d.auto.1.1.1.0 in
-    let u : length ns ≡ length a.nums.now = d.auto.1.1.1.1.0 in
+    let hs = d.new.heads in
+    let ns = d.new.nums in
+    let h : length hs ≡ length a.heads.now = d.auto.heads in
+    let u : length ns ≡ length a.nums.now = d.auto.nums in
     let lh : d.result.state.count ≤ length hs = omega (arith, p.number, p.tables.heads) in
     let ln : d.result.state.count ≤ length ns = omega (arith, p.number, p.tables.nums) in
     (c.val_to_instr-w.ensures.1, (lh, ln))
 
 pub shape_of-homes : goal.shape_of-homes
-shape_of-homes c = c.number_dest-settled.auto.1.1.0 ∙ c.handle_overwrite-saved.auto.1.1.0
+shape_of-homes c = c.number_dest-settled.auto.homes ∙ c.handle_overwrite-saved.auto.homes
 
 pub returns : goal.returns
 unfolding instr_of
@@ -61,8 +61,8 @@ returns c = let a = c.args in
     let w = c.val_to_instr-w in
     let d = c.number_dest-settled in
     let s = state_of a.env.now a.homes.now a.st hs ns in
-    let t = state_of d.new.1.0 d.new.1.1.0 d.result.state d.new.1.1.1.0 d.new.1.1.1.1.0 in (
-      placed a.n s i (expr_of a.v) (saved_of a.env.now q.new.1.1.0 q.result hs ns i) t
+    let t = state_of d.new.env d.new.homes d.result.state d.new.heads d.new.nums in (
+      placed a.n s i (expr_of a.v) (saved_of a.env.now q.new.homes q.result hs ns i) t
           (instr_of w.result) (instr_of c.choose.result) q.result.made
           (numbered_of d.result.number) (q.ensures hs ns i refl) (w.ensures.0 s refl) d.ensures.0 d.ensures.1
           (c.choose.ensures.0 t refl refl),

@@ -18,15 +18,15 @@ loop-at-init c = (search rules, (search rules, λ s d e. refl))
 pub loop-at-preserved : goal.loop-at-preserved
 loop-at-preserved c = let a = c.args in
     let l = c.loop-at in
-    let k : length a.t3 ≡ 8 = search rules in
+    let k : length a.args ≡ 8 = search rules in
     let few : a.n ≤ 8 = c.requires in
     let o : length l.out ≡ 8 = l.invariant.1.0 in
-    let x = nm (get_or a.t3 l.at 0) in (
+    let x = nm (get_or a.args l.at 0) in (
       search rules,
       (
         simp length-set l.invariant.1.0,
         λ s d e.
-            replaced_next (home_of s) l.out a.t3 l.at c.home_in-x.result (omega arith) (omega arith)
+            replaced_next (home_of s) l.out a.args l.at c.home_in-x.result (omega arith) (omega arith)
             (c.home_in-x.ensures ∙ ap (locs_of a.homes.now) c.number_in-v.ensures ∙
             home_read s a.env.now a.homes.now d e x)
             (l.invariant.1.1 s d e),
@@ -37,4 +37,4 @@ pub returns : goal.returns
 returns c = let l = c.loop-at in
     let a = c.args in
     let z : l.at ≡ a.n = omega arith in
-    λ s d e. ap (λ (i : ℕ). names_in i l.out) (sym z) ∙ l.invariant.1.1 s d e ∙ ap (λ (i : ℕ). map (home_of s) (names_in i a.t3)) z
+    λ s d e. ap (λ (i : ℕ). names_in i l.out) (sym z) ∙ l.invariant.1.1 s d e ∙ ap (λ (i : ℕ). map (home_of s) (names_in i a.args)) z

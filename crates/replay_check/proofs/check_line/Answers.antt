@@ -4,4 +4,4 @@ use mathlib.Core.Path.{sym}
 use Rattle.replay_check.proofs.check_line.Goals as goal
 
 pub slice_bounds-check-end : goal.slice_bounds-check-end
-slice_bounds-check-end c = let w = c.decode-part in sym (length-take-le w.result.len w.new.1.1.0 w.ensures)
+slice_bounds-check-end c = let w = c.decode-part in sym (length-take-le w.result.len w.new.out w.ensures)

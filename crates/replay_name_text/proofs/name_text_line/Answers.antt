@@ -5,11 +5,11 @@ use Rattle.replay_name_text.proofs.name_text_line.Goals as goal
 
 pub slice_bounds-told_alike-end : goal.slice_bounds-told_alike-end
 slice_bounds-told_alike-end c = let w = c.decode-first in
-    sym (length-take-le w.result.len w.new.1.1.0 w.ensures)
+    sym (length-take-le w.result.len w.new.out w.ensures)
 
 pub slice_bounds-told_alike-end-2 : goal.slice_bounds-told_alike-end-2
 slice_bounds-told_alike-end-2 c = let w = c.decode-second in
-    sym (length-take-le w.result.len w.new.1.1.0 w.ensures)
+    sym (length-take-le w.result.len w.new.out w.ensures)
 
 pub slice_bounds-told_alike-end-3 : goal.slice_bounds-told_alike-end-3
-slice_bounds-told_alike-end-3 c = let w = c.decode-third in sym (length-take-le w.result.len w.new.1.1.0 w.ensures)
+slice_bounds-told_alike-end-3 c = let w = c.decode-third in sym (length-take-le w.result.len w.new.out w.ensures)

@@ -5,7 +5,7 @@ use Rattle.replay_rewrite.proofs.rewrite_line.Goals as goal
 
 pub slice_bounds-answered_alike-end : goal.slice_bounds-answered_alike-end
 slice_bounds-answered_alike-end c = let w = c.decode-record in
-    sym (length-take-le w.result.len w.new.1.1.0 w.ensures)
+    sym (length-take-le w.result.len w.new.out w.ensures)
 
 pub slice_bounds-answered_alike-end-2 : goal.slice_bounds-answered_alike-end-2
-slice_bounds-answered_alike-end-2 c = let w = c.decode-bytes in sym (length-take-le w.result.len w.new.1.1.0 w.ensures)
+slice_bounds-answered_alike-end-2 c = let w = c.decode-bytes in sym (length-take-le w.result.len w.new.out w.ensures)

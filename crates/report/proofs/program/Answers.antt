@@ -15,16 +15,16 @@ slice_bounds-rewrite-end c = sym (length-take-le c.args.count _ (omega arith))
 
 pub returns-in-Written : goal.returns-in-Written
 returns-in-Written c = prints_rewriting c.args.buffer.now _ _ _ (omega arith) (first_within _ _ c.if-count-gt8192.false)
-    (sym c.rewrite.ensures.0 ∙ c.in-Written.is) c.rewrite.ensures.1 (omega (arith, c.rewrite.auto.1.0))
+    (sym c.rewrite.ensures.0 ∙ c.in-Written.is) c.rewrite.ensures.1 (omega (arith, c.rewrite.auto.output))
 
 pub returns-in-Refused : goal.returns-in-Refused
 returns-in-Refused c = prints_line _ _ _
     (prints_refused c.args.buffer.now _ _ _ _ (omega arith) (first_within _ _ c.if-count-gt8192.false)
     (sym c.rewrite.ensures.0 ∙ c.in-Refused.is) c.number_of.ensures)
-    c.put_refusal-in-Refused.ensures (omega (arith, c.rewrite.auto.1.0))
+    c.put_refusal-in-Refused.ensures (omega (arith, c.rewrite.auto.output))
 
 pub returns-in-Room : goal.returns-in-Room
 returns-in-Room c = prints_line _ _ _
     (prints_room c.args.buffer.now _ _ (omega arith) (first_within _ _ c.if-count-gt8192.false)
     (sym c.rewrite.ensures.0 ∙ c.in-Room.is))
-    c.put_refusal-in-Room.ensures (omega (arith, c.rewrite.auto.1.0))
+    c.put_refusal-in-Room.ensures (omega (arith, c.rewrite.auto.output))

@@ -11,12 +11,12 @@ use Rattle.write_instrs.proofs.put_args.Goals as goal
 
 pub returns-then-there : goal.returns-then-there
 returns-then-there c = let a = c.args in
-    let e : length a.t5 ≡ 8 = search rules in (
-      when_there a.there (argument_bytes (map nm (take a.n a.t5))) c.if-there.true
-          (args_wrote a.n a.t5 (omega arith) c.put_u8.ensures c.put_row.ensures.0),
+    let e : length a.args ≡ 8 = search rules in (
+      when_there a.there (argument_bytes (map nm (take a.n a.args))) c.if-there.true
+          (args_wrote a.n a.args (omega arith) c.put_u8.ensures c.put_row.ensures.0),
       search rules,
     )
 
 pub returns : goal.returns
 returns c = let a = c.args in
-    (when_not a.there (argument_bytes (map nm (take a.n a.t5))) c.if-there.false, search rules)
+    (when_not a.there (argument_bytes (map nm (take a.n a.args))) c.if-there.false, search rules)

@@ -14,24 +14,6 @@ use Rattle.lvn_state.proofs.Room.{next_room, maps_kept}
 use Rattle.lvn_state.proofs.Seen.{rest, low_first, low_rest, seen_first, seen_all, seen_room}
 use Rattle.lvn_state.proofs.LvnState.gen_new_vals.Goals as goal
 
--- the rest of the arguments, seen from here, gives the whole answer
-record Seeing
-    (env₀ homes₀ : List ℕ) (s₀ : LvnState) (hs₀ args : List ℕ) (n : ℕ) (env homes : List ℕ) (s : LvnState) (hs : List ℕ) (at : ℕ) : Type 0
-  where
-    at_most : at ≤ n
-    few : n ≤ 8
-    eight : length args ≡ 8
-    low : Low (length env₀) (rest args n at)
-    fits : room (length env₀) (state_of env homes s [] []) < length homes₀
-    maps : Maps env₀ homes₀
-    kept_env : length env ≡ length env₀
-    kept_homes : length homes ≡ length homes₀
-    kept : length hs ≡ length hs₀
-    table : length homes₀ ≤ length hs₀
-    seen :
-        (ns : List ℕ) →
-        gen_new_vals (state_of env homes s hs ns) (rest args n at) ≡ gen_new_vals (state_of env₀ homes₀ s₀ hs₀ ns) (names_in n args)
-
 pub loop-at-init : goal.loop-at-init
 loop-at-init c = let p = c.requires in
     let z : c.args.n - 0 ≡ c.args.n = omega arith in
@@ -52,7 +34,7 @@ loop-at-init c = let p = c.requires in
 pub see-st-requires : goal.see-st-requires
 see-st-requires c = let l = c.loop-at in
     let a = c.args in
-    let k : length a.t5 ≡ 8 = l.invariant.eight in
+    let k : length a.args ≡ 8 = l.invariant.eight in
     let few : a.n ≤ 8 = l.invariant.few in
     let s = state_of l.env l.homes l.st [] [] in
     let m = length a.env.now in
@@ -61,36 +43,36 @@ see-st-requires c = let l = c.loop-at in
     let v : length l.env ≡ length a.env.now = l.invariant.kept_env in
     let h : length l.homes ≡ length a.homes.now = l.invariant.kept_homes in
     let e : length l.heads ≡ length a.heads.now = l.invariant.kept in
-    let low = low_first a.t5 a.n l.at c.loop-at-test.true (omega arith) m l.invariant.low in
+    let low = low_first a.args a.n l.at c.loop-at-test.true (omega arith) m l.invariant.low in
     (omega (arith, v, low), (omega (arith, n, f, h), (maps_kept v h l.invariant.maps, omega (arith, h, e, l.invariant.table))))
 
 pub loop-at-preserved : goal.loop-at-preserved
 loop-at-preserved c = let l = c.loop-at in
     let a = c.args in
     let d = c.see-st in
-    let x = nm (get_or a.t5 l.at 0) in
+    let x = nm (get_or a.args l.at 0) in
     let t = c.loop-at-test.true in
-    let k : length a.t5 ≡ 8 = l.invariant.eight in
+    let k : length a.args ≡ 8 = l.invariant.eight in
     let few : a.n ≤ 8 = l.invariant.few in
     let m = length a.env.now in
-    let low = low_first a.t5 a.n l.at t (omega arith) m l.invariant.low in
-    let env = d.new.1.0 in
-    let homes = d.new.1.1.0 in
-    let heads = d.new.1.1.1.0 in
+    let low = low_first a.args a.n l.at t (omega arith) m l.invariant.low in
+    let env = d.new.env in
+    let homes = d.new.homes in
+    let heads = d.new.heads in
     let r = seen_room l.env l.homes env homes l.st d.result l.heads heads x m low (d.ensures []) in
     record {
       at_most = omega arith;
       few = few;
       eight = k;
-      low = low_rest a.t5 a.n l.at t (omega arith) m l.invariant.low;
+      low = low_rest a.args a.n l.at t (omega arith) m l.invariant.low;
       fits = (let f = l.invariant.fits in omega (arith, r, f));
       maps = l.invariant.maps;
-      kept_env = d.auto.1.0 ∙ l.invariant.kept_env;
-      kept_homes = d.auto.1.1.0 ∙ l.invariant.kept_homes;
-      kept = d.auto.1.1.1.0 ∙ l.invariant.kept;
+      kept_env = d.auto.env ∙ l.invariant.kept_env;
+      kept_homes = d.auto.homes ∙ l.invariant.kept_homes;
+      kept = d.auto.heads ∙ l.invariant.kept;
       table = l.invariant.table;
-      seen = λ ns. ap (λ (s : State). gen_new_vals s (rest a.t5 a.n (l.at + 1))) (d.ensures ns) ∙
-          seen_first a.t5 a.n l.at t (omega arith) (state_of l.env l.homes l.st l.heads ns) ∙ l.invariant.seen ns;
+      seen = λ ns. ap (λ (s : State). gen_new_vals s (rest a.args a.n (l.at + 1))) (d.ensures ns) ∙
+          seen_first a.args a.n l.at t (omega arith) (state_of l.env l.homes l.st l.heads ns) ∙ l.invariant.seen ns;
     }
 
 pub shape_of-env : goal.shape_of-env
@@ -105,4 +87,4 @@ shape_of-heads c = c.loop-at.invariant.kept
 pub returns : goal.returns
 returns c = let l = c.loop-at in
     let a = c.args in
-    λ ns. sym (seen_all (state_of l.env l.homes l.st l.heads ns) a.t5 a.n l.at c.loop-at-test.false) ∙ l.invariant.seen ns
+    λ ns. sym (seen_all (state_of l.env l.homes l.st l.heads ns) a.args a.n l.at c.loop-at-test.false) ∙ l.invariant.seen ns

@@ -16,7 +16,7 @@ returns-then-homes-k c = let a = c.args in
     let p = c.requires in
     let w = c.writes_home in
     let t : itself (locs_of a.homes.now) a.dest (expr_of a.v) ≡ false =
-    sym w.ensures ∙ not_true w.result c.if-not-writes_home.true in
+    sym w.ensures ∙ c.if-not-writes_home.true in
     save_made a.env.now a.homes.now a.self a.n a.dest p.0 (expr_of a.v) t c.if-k-homes.true
     p.1.1.numbers c.if-homes-k.true p.1.0
 
@@ -25,7 +25,7 @@ returns-else-homes-k c = let a = c.args in
     let p = c.requires in
     let w = c.writes_home in
     let t : itself (locs_of a.homes.now) a.dest (expr_of a.v) ≡ false =
-    sym w.ensures ∙ not_true w.result c.if-not-writes_home.true in
+    sym w.ensures ∙ c.if-not-writes_home.true in
     kept_away a.env.now a.homes.now a.self a.n a.dest p.0 (expr_of a.v) t c.if-k-homes.true
     p.1.1.numbers c.if-homes-k.false
 
@@ -34,7 +34,7 @@ returns-else-k-homes c = let a = c.args in
     let p = c.requires in
     let w = c.writes_home in
     let t : itself (locs_of a.homes.now) a.dest (expr_of a.v) ≡ false =
-    sym w.ensures ∙ not_true w.result c.if-not-writes_home.true in
+    sym w.ensures ∙ c.if-not-writes_home.true in
     kept_past a.env.now a.homes.now a.self a.n a.dest p.0 (expr_of a.v) t c.if-k-homes.false
     (omega (arith, p.0, p.1.1.names))
 
@@ -43,4 +43,4 @@ returns-else-not-writes_home c = let a = c.args in
     let p = c.requires in
     let w = c.writes_home in
     kept_itself a.env.now a.homes.now a.self a.n a.dest p.0 (expr_of a.v)
-    (sym w.ensures ∙ not_false w.result c.if-not-writes_home.false)
+    (sym w.ensures ∙ c.if-not-writes_home.false)
