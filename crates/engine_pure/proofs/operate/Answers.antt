@@ -1,5 +1,4 @@
 -- `engine_pure::operate` meets its contract: by the codes of one and of two operands.
-use borrow.Enum.Refused.{opened}
 use Prim.Native.Nat.{◌≤◌}
 use mathlib.Core.Path.{◌≡◌, ap}
 use native.Mathlib.Omega.{arith}
@@ -22,15 +21,15 @@ copy-requires c = lies c.args.code 1 c.args.s.now c.args.at c.args.cells.now
 
 pub of_ints-requires : goal.of_ints-requires
 of_ints-requires c = let h = c.requires.0.0 in
-    let l : c.args.code ≤ 9 = omega (arith, c.if-code-lt10.true) in (
+    let l : c.args.code ≤ 9 = omega arith in (
       (h, l),
       lies c.args.code 2 c.args.s.now c.args.at c.args.cells.now
           (of_ints c.args.code h l).few c.requires.1,
     )
 
 pub of_bools-requires : goal.of_bools-requires
-of_bools-requires c = let h : 11 ≤ c.args.code = omega (arith, c.if-code-lt10.false, (opened c.in_default-1.in_default-1-own.rest)) in
-    let l : c.args.code ≤ 12 = omega (arith, c.if-code-lt13.true) in (
+of_bools-requires c = let h : 11 ≤ c.args.code = omega arith in
+    let l : c.args.code ≤ 12 = omega arith in (
       (h, l),
       lies c.args.code 2 c.args.s.now c.args.at c.args.cells.now
           (of_bools c.args.code h l).few c.requires.1,

@@ -3,7 +3,7 @@ use Rattle.std.proofs.Common.{ℕ, ◌≡◌, ◌+◌, ◌*◌, ◌≤◌, cond,
 use Rattle.record.specs.Record.{nm}
 use Rattle.record.specs.Shape.{targets}
 use Rattle.record.specs.Decode.{operands_from, count_from}
-use Rattle.record.specs.Good.{Readable}
+use Rattle.read_instrs.specs.Again.{Readable}
 use Rattle.record.specs.declared.Shape.{Shape}
 use Rattle.read_shapes.proofs.Bounds.{shape_targets}
 use Rattle.read_instrs.proofs.Again.{Counted, Places, end_there, count_few, literal_ok, operands_again}
@@ -51,21 +51,21 @@ pub read_row-requires-2 : goal.read_row-requires-2
 read_row-requires-2 c =
     let f : c.count_from-n.result ≤ 8 =
     few c.args.sh c.args.s.now c.args.at c.args.id c.args.code _ _ _ c.past_if-lit.ensures.0 c.past_if-count.ensures.0 c.count_from-n.ensures.0 c.requires.1.1 in
-    let e : c.targets.result ≤ 8 = rw (c.targets.ensures.0, c.requires.1.0) (shape_targets c.args.code c.count_from-n.result f) in
+    let e : c.targets-m.result ≤ 8 = rw (c.targets-m.ensures.0, c.requires.1.0) (shape_targets c.args.code c.count_from-n.result f) in
     (omega (arith, c.requires.0, f, e, c.past_if-lit.ensures.1, c.past_if-count.ensures.1, c.past_if-callee.ensures.1, c.past_if-blocks.ensures.1), e)
 
 pub overflow_mul-result : goal.overflow_mul-result
 overflow_mul-result c =
     let f : c.count_from-n.result ≤ 8 =
     few c.args.sh c.args.s.now c.args.at c.args.id c.args.code _ _ _ c.past_if-lit.ensures.0 c.past_if-count.ensures.0 c.count_from-n.ensures.0 c.requires.1.1 in
-    let e : c.targets.result ≤ 8 = rw (c.targets.ensures.0, c.requires.1.0) (shape_targets c.args.code c.count_from-n.result f) in
+    let e : c.targets-m.result ≤ 8 = rw (c.targets-m.ensures.0, c.requires.1.0) (shape_targets c.args.code c.count_from-n.result f) in
     record { fits = omega (arith, e) }
 
 pub overflow_add-result : goal.overflow_add-result
 overflow_add-result c =
     let f : c.count_from-n.result ≤ 8 =
     few c.args.sh c.args.s.now c.args.at c.args.id c.args.code _ _ _ c.past_if-lit.ensures.0 c.past_if-count.ensures.0 c.count_from-n.ensures.0 c.requires.1.1 in
-    let e : c.targets.result ≤ 8 = rw (c.targets.ensures.0, c.requires.1.0) (shape_targets c.args.code c.count_from-n.result f) in
+    let e : c.targets-m.result ≤ 8 = rw (c.targets-m.ensures.0, c.requires.1.0) (shape_targets c.args.code c.count_from-n.result f) in
     record {
       fits =
           omega
@@ -76,15 +76,15 @@ pub returns : goal.returns
 returns c =
     let f : c.count_from-n.result ≤ 8 =
     few c.args.sh c.args.s.now c.args.at c.args.id c.args.code _ _ _ c.past_if-lit.ensures.0 c.past_if-count.ensures.0 c.count_from-n.ensures.0 c.requires.1.1 in
-    let e : c.targets.result ≤ 8 = rw (c.targets.ensures.0, c.requires.1.0) (shape_targets c.args.code c.count_from-n.result f) in
+    let e : c.targets-m.result ≤ 8 = rw (c.targets-m.ensures.0, c.requires.1.0) (shape_targets c.args.code c.count_from-n.result f) in
     let places :
         Places c.args.sh c.args.s.now c.args.at c.past_if-lit.result c.past_if-count.result c.count_from-n.result c.past_if-callee.result
-        c.past_if-blocks.result c.targets.result =
+        c.past_if-blocks.result c.targets-m.result =
     record {
       counted = known c.args.sh c.args.s.now c.args.at _ _ _ c.past_if-lit.ensures.0 c.past_if-count.ensures.0 c.count_from-n.ensures.0;
       callee_is = c.past_if-callee.ensures.0;
       blocks_is = c.past_if-blocks.ensures.0;
-      m_is = c.targets.ensures.0;
+      m_is = c.targets-m.ensures.0;
     } in
     record {
       instr =
