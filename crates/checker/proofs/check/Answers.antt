@@ -5,7 +5,7 @@ use Rattle.checker.proofs.check.Goals as goal
 
 pub returns-in-At : goal.returns-in-At
 returns-in-At c = c.answer.ensures
-    ∙ checked_typed _ _ _ (sym c.read.ensures ∙ c.in-At.is) c.type-inv.ensures
+    ∙ checked_typed _ _ _ (sym c.read.ensures ∙ c.in-At.is) c.typed.ensures
 
 pub returns-in-Refused : goal.returns-in-Refused
 returns-in-Refused c = checked_refused _ _ _ (sym c.read.ensures ∙ c.in-Refused.is)

@@ -44,7 +44,7 @@ returns-then-f c = let f = c.part_of-f.result in
     let side = c.if-f.true in (
       text_bytes a.input.now a.rewriting.now _ _ same a.rewriting.now _ (sym (ap (λ b. cond b a.rewriting.now a.input.now) side)) d,
       text_starts a.input.now a.rewriting.now _ _ same a.input.ref_ptr a.rewriting.ref_ptr a.rewriting.ref_ptr
-          (sym (ap (λ b. cond b a.rewriting.ptr a.input.ptr) side)),
+          (sym (ap (λ b. cond b a.rewriting.ref_ptr a.input.ref_ptr) side)),
     )
 
 pub returns-else-f : goal.returns-else-f
@@ -55,5 +55,5 @@ returns-else-f c = let f = c.part_of-f.result in
     let side = c.if-f.false in (
       text_bytes a.input.now a.rewriting.now _ _ same a.input.now _ (sym (ap (λ b. cond b a.rewriting.now a.input.now) side)) d,
       text_starts a.input.now a.rewriting.now _ _ same a.input.ref_ptr a.rewriting.ref_ptr a.input.ref_ptr
-          (sym (ap (λ b. cond b a.rewriting.ptr a.input.ptr) side)),
+          (sym (ap (λ b. cond b a.rewriting.ref_ptr a.input.ref_ptr) side)),
     )
