@@ -14,11 +14,6 @@ use Rattle.engine_events.proofs.Over.{over_turn}
 use Rattle.engine_events.proofs.Replies.{answered_none, answered_halt, answered_unfit, answered_goes}
 use Rattle.engine_events.proofs.answered.Goals as goal
 
--- the places of the instruction are far from the last
-
-near : (z : tie.Start) → (z.args.w ≤ 8) × (z.args.t.spot.at + 2048 < places)
-near z = near_by z.requires.1.1.1.1.1.0 z.args.w z.requires.1.1.1.1.0 z.well_formed.0.1
-
 pub returns-then-t-eq0 : goal.returns-then-t-eq0
 returns-then-t-eq0 c = let a = c.args in
     subst (Answered a.s.now a.types.now a.starts.now a.list.now a.cells.now a.cells.now a.event a.t)
@@ -37,20 +32,28 @@ returns-then-kind c = let a = c.args in
     c.if-kind.true)
 
 pub overflow_add-at : goal.overflow_add-at
-overflow_add-at c = omega (arith, near c)
+overflow_add-at c = 
+    let near = near_by c.requires.1.1.1.1.1.0 c.args.w c.requires.1.1.1.1.0 c.well_formed.0.1 in
+    omega (arith, near)
 
 pub overflow_add-at-2 : goal.overflow_add-at-2
-overflow_add-at-2 c = omega (arith, near c)
+overflow_add-at-2 c = 
+    let near = near_by c.requires.1.1.1.1.1.0 c.args.w c.requires.1.1.1.1.0 c.well_formed.0.1 in
+    omega (arith, near)
 
 pub overflow_add-at-3 : goal.overflow_add-at-3
-overflow_add-at-3 c = omega (arith, near c)
+overflow_add-at-3 c = 
+    let near = near_by c.requires.1.1.1.1.1.0 c.args.w c.requires.1.1.1.1.0 c.well_formed.0.1 in
+    omega (arith, near)
 
 pub takes-requires : goal.takes-requires
-takes-requires c = let a = c.args in
+takes-requires c = 
+    let near = near_by c.requires.1.1.1.1.1.0 c.args.w c.requires.1.1.1.1.0 c.well_formed.0.1 in
+    let a = c.args in
     let code = c.byte_or in
     let kind = c.byte_or-kind in
     let some_left : 0 < a.t.answers = omega (arith, c.if-t-eq0.false) in
-    let n = near z in (
+    let n = near in (
       omega (arith, n),
       (
         dest_cell c.requires.1.1.1.1.1.0 a.w c.requires.1.1.1.1.0 code.result a.cells.now code.ensures.0
@@ -79,7 +82,9 @@ returns-then-not-takes c = let a = c.args in
     (c.if-not-takes.true))
 
 pub instr_end-requires : goal.instr_end-requires
-instr_end-requires c = let n = near c in (n.0, omega (arith, n.1))
+instr_end-requires c = 
+    let near = near_by c.requires.1.1.1.1.1.0 c.args.w c.requires.1.1.1.1.0 c.well_formed.0.1 in
+    let n = near in (n.0, omega (arith, n.1))
 
 pub onward-requires : goal.onward-requires
 onward-requires c = let a = c.args in (

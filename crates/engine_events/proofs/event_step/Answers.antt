@@ -15,44 +15,45 @@ use Rattle.engine_events.proofs.Events.{near_by, near_row, row_by}
 use Rattle.engine_events.proofs.Steps.{told_is, told_not, step_unset, room_left, step_ret, step_told}
 use Rattle.engine_events.proofs.event_step.Goals as goal
 
--- what the code asks: the instruction at which it stands, and that its places are far from the last
-
-loud : (z : tie.Start) → Loud z.args.s.now z.args.t.spot.at
-loud z = stands_loud z.args.s.now z.args.starts.now z.args.t.spot z.requires.1.0.standing z.requires.1.1.0 z.requires.1.1.1.1.1
-
-near : (z : tie.Start) → (z.args.w ≤ 8) × (z.args.t.spot.at + 2048 < places)
-near z = near_by (loud z) z.args.w z.requires.1.1.1.1.0 z.well_formed.0.1
-
--- its arguments
-
-abbrev values : tie.Start → Option (List Val)
-values z = read_all (store_in z.args.cells.now) (args_at z.args.s.now z.args.t.spot.at)
-
 pub overflow_add-at : goal.overflow_add-at
-overflow_add-at c = omega (arith, near c)
+overflow_add-at c = 
+    let loud = stands_loud c.args.s.now c.args.starts.now c.args.t.spot c.requires.1.0.standing c.requires.1.1.0 c.requires.1.1.1.1.1 in
+    let near = near_by loud c.args.w c.requires.1.1.1.1.0 c.well_formed.0.1 in
+    omega (arith, near)
 
 pub overflow_add-at-2 : goal.overflow_add-at-2
-overflow_add-at-2 c = omega (arith, near c)
+overflow_add-at-2 c = 
+    let loud = stands_loud c.args.s.now c.args.starts.now c.args.t.spot c.requires.1.0.standing c.requires.1.1.0 c.requires.1.1.1.1.1 in
+    let near = near_by loud c.args.w c.requires.1.1.1.1.0 c.well_formed.0.1 in
+    omega (arith, near)
 
 pub overflow_add-at-3 : goal.overflow_add-at-3
-overflow_add-at-3 c = omega (arith, near c)
+overflow_add-at-3 c = 
+    let loud = stands_loud c.args.s.now c.args.starts.now c.args.t.spot c.requires.1.0.standing c.requires.1.1.0 c.requires.1.1.1.1.1 in
+    let near = near_by loud c.args.w c.requires.1.1.1.1.0 c.well_formed.0.1 in
+    omega (arith, near)
 
 pub past_if-row-requires : goal.past_if-row-requires
-past_if-row-requires c = omega (arith, near c)
+past_if-row-requires c = 
+    let loud = stands_loud c.args.s.now c.args.starts.now c.args.t.spot c.requires.1.0.standing c.requires.1.1.0 c.requires.1.1.1.1.1 in
+    let near = near_by loud c.args.w c.requires.1.1.1.1.0 c.well_formed.0.1 in
+    omega (arith, near)
 
 pub tell_event-requires : goal.tell_event-requires
-tell_event-requires c = let code = c.byte_or-code in
+tell_event-requires c = 
+    let loud = stands_loud c.args.s.now c.args.starts.now c.args.t.spot c.requires.1.0.standing c.requires.1.1.0 c.requires.1.1.1.1.1 in
+    let code = c.byte_or-code in
     let a = c.args in
     let row = row_by a.s.now a.t.spot.at a.w code.result c.past_if-row.result c.requires.1.1.1.1.0
     code.ensures.0
     c.past_if-row.ensures.0 in (
-      loud z,
+      loud,
       (
         c.requires.1.1.1.1.0,
         (
           row,
           (
-            near_row (loud z) a.w c.requires.1.1.1.1.0 c.past_if-row.result row
+            near_row loud a.w c.requires.1.1.1.1.0 c.past_if-row.result row
                 c.well_formed.0.1,
             omega (arith, c.requires.1.0.events),
           ),
@@ -61,19 +62,23 @@ tell_event-requires c = let code = c.byte_or-code in
     )
 
 pub returns-then-code-eq66 : goal.returns-then-code-eq66
-returns-then-code-eq66 c = let code = c.byte_or-code in
+returns-then-code-eq66 c = 
+    let loud = stands_loud c.args.s.now c.args.starts.now c.args.t.spot c.requires.1.0.standing c.requires.1.1.0 c.requires.1.1.1.1.1 in
+    let code = c.byte_or-code in
     let a = c.args in
-    let told = told_is a.s.now a.t.spot.at a.out.now _ a.t.event c.in-Is.event c.tell_event.result (values z)
+    let told = told_is a.s.now a.t.spot.at a.out.now _ a.t.event c.in-Is.event c.tell_event.result (read_all (store_in a.cells.now) (args_at a.s.now a.t.spot.at))
     c.in-Is.is c.tell_event.ensures in
     subst (Stepped a.s.now a.types.now a.starts.now a.list.now a.cells.now a.cells.now a.out.now _ a.t)
     (sym c.ended.ensures)
     (step_ret a.s.now a.types.now a.starts.now a.list.now a.cells.now a.out.now a.t c.requires.1.0
-    c.requires.1.1.0 (loud z) _ c.in-Is.event told
+    c.requires.1.1.0 loud _ c.in-Is.event told
     (sym (code.ensures.0 ∙ ap (λ (w : ℕ). num_at a.s.now (a.t.spot.at + w) 1) c.requires.1.1.1.1.0) ∙ c.if-code-eq66.true))
 
 pub answered-requires : goal.answered-requires
-answered-requires c = let a = c.args in
-    let told = told_is a.s.now a.t.spot.at a.out.now _ a.t.event c.in-Is.event c.tell_event.result (values z)
+answered-requires c = 
+    let loud = stands_loud c.args.s.now c.args.starts.now c.args.t.spot c.requires.1.0.standing c.requires.1.1.0 c.requires.1.1.1.1.1 in
+    let a = c.args in
+    let told = told_is a.s.now a.t.spot.at a.out.now _ a.t.event c.in-Is.event c.tell_event.result (read_all (store_in a.cells.now) (args_at a.s.now a.t.spot.at))
     c.in-Is.is c.tell_event.ensures in (
       c.requires.0,
       (
@@ -85,9 +90,9 @@ answered-requires c = let a = c.args in
             (
               c.requires.1.1.1.1.0,
               (
-                loud z,
+                loud,
                 room_left a.s.now a.types.now a.starts.now a.list.now a.cells.now a.out.now
-                    a.t c.requires.1.0 c.requires.1.1.0 (loud z) _ c.in-Is.event told,
+                    a.t c.requires.1.0 c.requires.1.1.0 loud _ c.in-Is.event told,
               ),
             ),
           ),
@@ -96,18 +101,22 @@ answered-requires c = let a = c.args in
     )
 
 pub returns-else-code-eq66 : goal.returns-else-code-eq66
-returns-else-code-eq66 c = let code = c.byte_or-code in
+returns-else-code-eq66 c = 
+    let loud = stands_loud c.args.s.now c.args.starts.now c.args.t.spot c.requires.1.0.standing c.requires.1.1.0 c.requires.1.1.1.1.1 in
+    let code = c.byte_or-code in
     let a = c.args in
-    let told = told_is a.s.now a.t.spot.at a.out.now _ a.t.event c.in-Is.event c.tell_event.result (values z)
+    let told = told_is a.s.now a.t.spot.at a.out.now _ a.t.event c.in-Is.event c.tell_event.result (read_all (store_in a.cells.now) (args_at a.s.now a.t.spot.at))
     c.in-Is.is c.tell_event.ensures in
     step_told a.s.now a.types.now a.starts.now a.list.now a.cells.now a.out.now a.t c.requires.1.0
-    c.requires.1.1.0 (loud z) _ c.in-Is.event told _ c.answered.result
+    c.requires.1.1.0 loud _ c.in-Is.event told _ c.answered.result
     (λ e. c.if-code-eq66.false ((code.ensures.0 ∙ ap (λ (w : ℕ). num_at a.s.now (a.t.spot.at + w) 1)
     c.requires.1.1.1.1.0) ∙ e)) c.answered.ensures
 
 pub returns-in-Unset : goal.returns-in-Unset
-returns-in-Unset c = let a = c.args in
-    let none_read = told_not a.s.now a.t.spot.at a.out.now _ a.t.event c.tell_event.result (values z)
+returns-in-Unset c = 
+    let loud = stands_loud c.args.s.now c.args.starts.now c.args.t.spot c.requires.1.0.standing c.requires.1.1.0 c.requires.1.1.1.1.1 in
+    let a = c.args in
+    let none_read = told_not a.s.now a.t.spot.at a.out.now _ a.t.event c.tell_event.result (read_all (store_in a.cells.now) (args_at a.s.now a.t.spot.at))
     c.in-Unset.is c.tell_event.ensures in
     subst (λ (m : List ℕ). Stepped a.s.now a.types.now a.starts.now a.list.now a.cells.now a.cells.now
     a.out.now m a.t c.ended-in-Unset.result)
@@ -115,4 +124,4 @@ returns-in-Unset c = let a = c.args in
     (subst (Stepped a.s.now a.types.now a.starts.now a.list.now a.cells.now a.cells.now a.out.now a.out.now a.t)
     (sym c.ended-in-Unset.ensures)
     (step_unset a.s.now a.types.now a.starts.now a.list.now a.cells.now a.out.now a.t c.requires.1.0
-    c.requires.1.1.0 (loud z) none_read.0))
+    c.requires.1.1.0 loud none_read.0))

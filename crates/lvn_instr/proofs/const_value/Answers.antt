@@ -13,23 +13,23 @@ use Rattle.numbering.specs.Number.{numbered, make_val}
 use Rattle.lvn_instr.proofs.Values.{const_float, const_int, const_bool}
 use Rattle.lvn_instr.proofs.const_value.Goals as goal
 
-word : (c : tie.After-bits-of) → c.bits_of.result ≡ of_z w64 c.before.before.l.given.0.0
-word c =
-    let z = c.before.before.l.given.0.0 in
-    let f : of_z w64 (to_z w64 (of_z w64 z)) ≡ of_z w64 z = search rules in
-    c.bits_of.ensures ∙ f
-
 pub returns-then-t-eq-FLOAT : goal.returns-then-t-eq-FLOAT
 unfolding literal_of
 returns-then-t-eq-FLOAT c = λ s.
+    let z = c.in-Int.z in
+    let again : of_z w64 (to_z w64 (of_z w64 z)) ≡ of_z w64 z = search rules in
+    let word : c.bits_of-w.result ≡ of_z w64 z = c.bits_of-w.ensures ∙ again in
     rw c.in-Int.is
-    (ap (λ (n : ℕ). some (constant (literal n))) (word c) ∙ const_float s c.args.t _ c.if-t-eq-FLOAT.true)
+    (ap (λ (n : ℕ). some (constant (literal n))) word ∙ const_float s c.args.t _ c.if-t-eq-FLOAT.true)
 
 pub returns-else-t-eq-FLOAT : goal.returns-else-t-eq-FLOAT
 unfolding literal_of
 returns-else-t-eq-FLOAT c = λ s.
+    let z = c.in-Int.z in
+    let again : of_z w64 (to_z w64 (of_z w64 z)) ≡ of_z w64 z = search rules in
+    let word : c.bits_of-w.result ≡ of_z w64 z = c.bits_of-w.ensures ∙ again in
     rw c.in-Int.is
-    (ap (λ (n : ℕ). some (constant (int n))) (word c) ∙ const_int s c.args.t _ c.if-t-eq-FLOAT.false)
+    (ap (λ (n : ℕ). some (constant (int n))) word ∙ const_int s c.args.t _ c.if-t-eq-FLOAT.false)
 
 pub returns-in-Bool : goal.returns-in-Bool
 unfolding make_val value_of numbered literal_of

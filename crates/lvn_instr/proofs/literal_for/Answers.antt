@@ -19,13 +19,11 @@ int_literal w z f s e = ap (λ (n : ℕ). record { kind = 0; bits = n }) (ap (of
 
 pub returns-in-Int : goal.returns-in-Int
 unfolding literal_of
-returns-in-Int c = let k = c.c-1.given in
-    rw k.1 (int_literal k.0.0 c.of_bits.result (search rules) (search rules) c.of_bits.ensures)
+returns-in-Int c = rw c.in-Int.is (int_literal c.in-Int.w c.of_bits.result (search rules) (search rules) c.of_bits.ensures)
 
 pub returns-in-IntAsFloat : goal.returns-in-IntAsFloat
 unfolding literal_of
-returns-in-IntAsFloat c = let k = c.c-in-IntAsFloat-1.given in
-    rw k.1 (int_literal k.0.0 c.of_bits-in-IntAsFloat.result (search rules) (search rules) c.of_bits-in-IntAsFloat.ensures)
+returns-in-IntAsFloat c = rw c.in-IntAsFloat.is (int_literal c.in-IntAsFloat.w c.of_bits-in-IntAsFloat.result (search rules) (search rules) c.of_bits-in-IntAsFloat.ensures)
 
 pub returns-in-Bool : goal.returns-in-Bool
 unfolding literal_of

@@ -13,17 +13,15 @@ unfolding val_to_instr
 returns-in-Constant c = ((λ s e. rw c.in-Constant.is c.make_const_instr.ensures.0), c.make_const_instr.ensures.1)
 
 pub returns-in-One : goal.returns-in-One
-returns-in-One c = let a = c.args in
-    let v = c.v-in-One-1.given in (
-      (λ s e. rw v.1 (c.make_one_instr.ensures.0 ∙ one_written s a.homes.now (instr_of a.i) v.0.0 v.0.1.0 e)),
+returns-in-One c = let a = c.args in (
+      (λ s e. rw c.in-One.is (c.make_one_instr.ensures.0 ∙ one_written s a.homes.now (instr_of a.i) c.in-One.o c.in-One.a e)),
       c.make_one_instr.ensures.1,
     )
 
 pub returns-in-Two : goal.returns-in-Two
-returns-in-Two c = let a = c.args in
-    let v = c.v-in-Two-1.given in (
-      (λ s e. rw v.1
+returns-in-Two c = let a = c.args in (
+      (λ s e. rw c.in-Two.is
           (c.make_two_instr.ensures.0 ∙
-          two_written s a.homes.now (instr_of a.i) v.0.0 v.0.1.0 v.0.1.1.0 e)),
+          two_written s a.homes.now (instr_of a.i) c.in-Two.o c.in-Two.a c.in-Two.b e)),
       c.make_two_instr.ensures.1,
     )

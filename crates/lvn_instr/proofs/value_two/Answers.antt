@@ -9,12 +9,6 @@ use Rattle.lvn_simplify.specs.View.{known_of}
 use Rattle.lvn_instr.proofs.Values.{number_small, number_read, known_read, reading, two_value, two_ok}
 use Rattle.lvn_instr.proofs.value_two.Goals as goal
 
-first_fits : (c : tie.After-number-in) → Fits w16 c.number_in.result.0
-first_fits c = search rules
-
-second_fits : (c : tie.After-number-in2) → Fits w16 c.number-in2.result.0
-second_fits c = search rules
-
 pub returns : goal.returns
 returns c = let a = c.args in
     let env = a.env.now in
@@ -24,8 +18,8 @@ returns c = let a = c.args in
     let m = c.number_in-b.result in
     let ka = known_of c.known_at-ka.result in
     let kb = known_of c.known_at-kb.result in
-    let f : Fits w16 n.0 = first_fits c4 in
-    let g : Fits w16 m.0 = second_fits c3 in
+    let f : Fits w16 n.0 = search rules in
+    let g : Fits w16 m.0 = search rules in
     let nb : n.0 < 65536 = omega (arith, f.fits) in
     let mb : m.0 < 65536 = omega (arith, g.fits) in
     let d = c.number_in-a.ensures in
