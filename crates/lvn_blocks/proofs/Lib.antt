@@ -4,6 +4,3 @@ pub mod Turned
 pub mod Blocks
 pub mod Heads
 pub mod Whole
-pub mod Relent
-pub mod Runs
-pub mod Lent
