@@ -1,7 +1,7 @@
 /* Rewrites the record on standard input to standard output, by the static library.
  *
- *     gcc -Iinclude examples/rewrite.c target/staticlib/libexports.a -o target/rewrite
- *     target/rewrite < record > rewriting
+ *     gcc -Iinclude examples/rewrite.c crates/exports/out/libexports.a -o /tmp/rewrite
+ *     /tmp/rewrite < record > rewriting
  *
  * A refusal is said on standard error; the status is then 1, and 2 if reading or writing failed. */
 #include <stdio.h>

@@ -1,6 +1,6 @@
 /* Local value numbering of Bril function records: a static library, proved.
  *
- *     rt staticlib exports        writes target/staticlib/libexports.a
+ *     (cd crates/exports && rt lib)        makes crates/exports/out/libexports.a
  *
  * Records, refusals and limits are those of docs/REFERENCE.md. Each function returns 0, or the number of its refusal:
  *

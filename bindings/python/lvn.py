@@ -144,7 +144,7 @@ def _entry(name: str, *types: Any) -> Any:
     try:
         function = getattr(_LIBRARY, name)
     except AttributeError:
-        raise ImportError("%s: has no %s; run `rt staticlib exports`" % (_LIBRARY._name, name)) from None
+        raise ImportError("%s: has no %s; run `rt lib` in crates/exports" % (_LIBRARY._name, name)) from None
     function.argtypes, function.restype = types, ctypes.c_uint8
     return function
 

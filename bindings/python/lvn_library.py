@@ -11,9 +11,9 @@ import subprocess
 import tempfile
 from pathlib import Path
 
-TARGET = Path(__file__).resolve().parents[2] / "target"
-ARCHIVE = TARGET / "staticlib/libexports.a"
-SHARED = TARGET / "python/liblvn.so"
+TOP = Path(__file__).resolve().parents[2]
+ARCHIVE = TOP / "crates/exports/out/libexports.a"
+SHARED = TOP / "target/python/liblvn.so"
 
 
 def load() -> ctypes.CDLL:
@@ -27,7 +27,7 @@ def load() -> ctypes.CDLL:
 
 def _linked() -> Path:
     if not ARCHIVE.is_file():
-        raise ImportError("%s: not there; run `rt staticlib exports`, or set LVN_LIBRARY" % ARCHIVE)
+        raise ImportError("%s: not there; run `rt lib` in crates/exports, or set LVN_LIBRARY" % ARCHIVE)
     time = ARCHIVE.stat().st_mtime_ns
     if not SHARED.is_file() or SHARED.stat().st_mtime_ns != time:
         _link(time)
@@ -39,7 +39,7 @@ def _link(time: int) -> None:
     compiler = shutil.which("cc") or shutil.which("gcc") or shutil.which("clang")
     if not compiler:
         raise ImportError("no cc, gcc or clang in PATH to link %s with" % ARCHIVE)
-    SHARED.parent.mkdir(exist_ok=True)
+    SHARED.parent.mkdir(parents=True, exist_ok=True)
     with tempfile.TemporaryDirectory(dir=SHARED.parent) as folder:
         new = Path(folder) / SHARED.name
         words = [compiler, "-shared", "-o", new, "-Wl,--whole-archive", ARCHIVE, "-Wl,--no-whole-archive"]

@@ -9,7 +9,7 @@ import unittest
 from pathlib import Path
 
 HERE = Path(__file__).resolve().parent
-ARCHIVE = HERE.parents[1] / "target/staticlib/libexports.a"
+ARCHIVE = HERE.parents[1] / "crates/exports/out/libexports.a"
 SAY = "import lvn; print(*lvn.figures(bytes.fromhex('000000060100000000' + '00')))"
 
 
@@ -20,7 +20,7 @@ class Linking(unittest.TestCase):
         self.addCleanup(shutil.rmtree, self.top)
         (self.top / "bindings").mkdir()
         shutil.copytree(HERE, self.top / "bindings/python", ignore=shutil.ignore_patterns("__pycache__"))
-        self.archive = self.top / "target/staticlib/libexports.a"
+        self.archive = self.top / "crates/exports/out/libexports.a"
         self.archive.parent.mkdir(parents=True)
         shutil.copy(ARCHIVE, self.archive)
         self.shared = self.top / "target/python/liblvn.so"
@@ -74,9 +74,9 @@ class Linking(unittest.TestCase):
         self.archive.write_bytes(b"no archive")
         self.assertRegex(self.said(), "^ImportError: %s: not linked by .*: ." % self.archive)
         self.archive.write_bytes(b"!<arch>\n")
-        self.assertEqual(self.said(), "ImportError: %s: has no lvn_check; run `rt staticlib exports`" % self.shared)
+        self.assertEqual(self.said(), "ImportError: %s: has no lvn_check; run `rt lib` in crates/exports" % self.shared)
         self.archive.unlink()
-        self.assertEqual(self.said(), "ImportError: %s: not there; run `rt staticlib exports`, or set LVN_LIBRARY" % self.archive)
+        self.assertEqual(self.said(), "ImportError: %s: not there; run `rt lib` in crates/exports, or set LVN_LIBRARY" % self.archive)
 
 
 if __name__ == "__main__":
