@@ -1,5 +1,4 @@
 -- `check_names::names_at` meets its contract: what the names left answer is what all answer, and each text seen has its mark.
-use Prim.Native.Nat.{◌-◌}
 use mathlib.Core.Path.{refl, ◌∙◌}
 use native.Mathlib.Omega.{arith}
 use lib.ListN.{length-set}

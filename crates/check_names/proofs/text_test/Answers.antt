@@ -1,7 +1,6 @@
 -- `check_names::text_test` meets its contract: its three tests, in the definition's order.
 use mathlib.Core.Path.{sym, ap, ◌∙◌}
 use mathlib.Core.Bool.{not}
-use borrow.Author.Tests.{not-true, not-false}
 use Rattle.record.specs.Tests.{need}
 use Rattle.record.specs.declared.Refusal.TheVariants.{Text}
 use Rattle.check_names.proofs.Laws.{text_malformed, text_reserved, text_new}

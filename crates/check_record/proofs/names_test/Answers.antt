@@ -11,6 +11,6 @@ pub returns : goal.returns
 unfolding names_test
 returns c = c.need.ensures ∙ ap (λ b. need b Limit)
     (elim c.if-n-most.branch [
-      then-n-most w ↦ and_other _ _ _ (le-leb _ _ w.if-n-most.true) w.need-is |
-      else-n-most w ↦ and_settled _ _ _ (lt-leb _ _ w.if-n-most.false) w.need-is
+      | then-n-most w ↦ and_other _ _ _ (le-leb _ _ w.if-n-most.true) w.need-is
+      | else-n-most w ↦ and_settled _ _ _ (lt-leb _ _ w.if-n-most.false) w.need-is
     ])

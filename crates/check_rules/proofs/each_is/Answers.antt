@@ -25,9 +25,9 @@ loop-left-smaller c = search rules
 
 pub loop-left-preserved : goal.loop-left-preserved
 loop-left-preserved c = (
-      omega (arith, c.loop-left.invariant.0),
-      each_went _ _ _ _ c.loop-left.p c.loop-left.left _ c.index_type.ensures.0 (omega arith) c.if-index_type-t.false ∙ c.loop-left.invariant.1,
-    )
+  omega (arith, c.loop-left.invariant.0),
+  each_went _ _ _ _ c.loop-left.p c.loop-left.left _ c.index_type.ensures.0 (omega arith) c.if-index_type-t.false ∙ c.loop-left.invariant.1,
+)
 
 pub returns : goal.returns
 returns c = each_done _ _ _ _ c.loop-left.p c.loop-left.left (omega arith) ∙ c.loop-left.invariant.1

@@ -1,14 +1,7 @@
 -- `check_rules::typed_at` meets its contract: each rule is kept or not by a function of its own, and fits the shape of its code.
-use Prim.Native.Nat.{◌+◌}
-use mathlib.Core.Path.{◌≡◌, refl}
-use mathlib.Core.Bool.{Bool, true, false}
-use mathlib.Core.Option.{some}
-use Rattle.record.specs.Record.{type_in}
-use Rattle.record.specs.Typing.{well_typed}
-use Rattle.record.specs.Decode.{instr_from}
-use Rattle.check_rules.specs.declared.Rule.{Rule}
-use Rattle.check_rules.specs.Rules.{rule, Kept}
-use Rattle.check_rules.proofs.Laws.{parts, typed_free, typed_kept}
+use mathlib.Core.Path.{refl}
+use mathlib.Core.Bool.{true, false}
+use Rattle.check_rules.proofs.Laws.{typed_free, typed_kept}
 use Rattle.check_rules.proofs.typed_at.Goals as goal
 
 pub returns-in-Free : goal.returns-in-Free

@@ -1,7 +1,6 @@
 -- `check_texts::all_text` meets its contract: what the bytes left answer is what all answer.
 use mathlib.Core.Path.{refl, sym, ◌∙◌}
 use native.Mathlib.Omega.{arith}
-use borrow.Author.Tests.{not-true, not-false}
 use Rattle.check_texts.proofs.Laws.{text_stopped, text_went, text_done}
 use Rattle.check_texts.proofs.all_text.Goals as goal
 

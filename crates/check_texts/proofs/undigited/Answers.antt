@@ -1,7 +1,6 @@
 -- `check_texts::undigited` meets its contract: what the bytes before answer is what all answer.
 use mathlib.Core.Path.{refl, sym, ◌∙◌}
 use native.Mathlib.Omega.{arith}
-use borrow.Author.Tests.{not-true, not-false}
 use Rattle.check_texts.proofs.Laws.{digits_stopped, digits_went, digits_done}
 use Rattle.check_texts.proofs.undigited.Goals as goal
 

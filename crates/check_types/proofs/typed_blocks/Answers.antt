@@ -13,9 +13,9 @@ returns-in-Refused c = blocks_stopped _ _ _ _ _ c.loop-left-test.true _ _ (sym c
 
 pub loop-left-preserved : goal.loop-left-preserved
 loop-left-preserved c = let e = c.in-At.is in (
-      omega (arith, c.loop-left.invariant.0, c.typed_block.ensures.1 _ e),
-      blocks_went _ _ _ _ _ c.loop-left-test.true _ (sym c.typed_block.ensures.0 ∙ e) ∙ c.loop-left.invariant.1,
-    )
+  omega (arith, c.loop-left.invariant.0, c.typed_block.ensures.1 _ e),
+  blocks_went _ _ _ _ _ c.loop-left-test.true _ (sym c.typed_block.ensures.0 ∙ e) ∙ c.loop-left.invariant.1,
+)
 
 pub returns : goal.returns
 returns c = let l = c.loop-left in

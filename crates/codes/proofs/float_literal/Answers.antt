@@ -2,7 +2,7 @@
 use borrow.Author.Rules.{rules}
 use mathlib.Core.Path.{◌≡◌, ◌∙◌, refl, sym}
 use mathlib.Core.Bool.{false}
-use lib.Ieee.{binary64, nan_bits, of_bits, is_nan}
+use lib.Ieee.{binary64, of_bits, is_nan}
 use lib.Ieee.Bits.{nan_bits_above, nan_bits_is, to_bits-of_bits}
 use borrow.Author.Tests.{le-ltb}
 use Rattle.record.specs.Answer.{literal_of}

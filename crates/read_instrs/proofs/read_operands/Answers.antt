@@ -1,7 +1,6 @@
 -- `read_instrs::read_operands` meets its contract: each part is read at the place that the parts before it leave.
-use Rattle.std.proofs.Common.{ℕ, ◌≡◌, ◌+◌, ◌*◌, ◌≤◌, cond, List, not, refl, ap, arith}
+use Rattle.std.proofs.Common.{ℕ, ◌≡◌, ◌+◌, ◌≤◌, cond, List, refl, ap, arith}
 use Rattle.record.specs.Record.{nm}
-use Rattle.record.specs.Shape.{targets}
 use Rattle.record.specs.Decode.{operands_from, count_from}
 use Rattle.read_instrs.specs.Again.{Readable}
 use Rattle.record.specs.declared.Shape.{Shape}

@@ -1,5 +1,4 @@
 -- `read_instrs::read_row` meets its contract: the first i stand in the array.
-use Prim.Native.Nat.{◌-◌}
 use mathlib.Core.Path.{◌≡◌, refl, ◌∙◌}
 use native.Mathlib.Omega.{arith}
 use lib.ListN.{length, take, length-set}

@@ -5,6 +5,6 @@ use Rattle.read_layout.proofs.instr_end.Goals as goal
 
 pub returns : goal.returns
 returns c = (
-      instr_past _ _ _ _ _ _ c.byte_or.ensures.0 c.shape_of-sh.ensures c.operands_end.ensures.0,
-      omega (arith, c.operands_end.ensures.1),
-    )
+  instr_past _ _ _ _ _ _ c.byte_or.ensures.0 c.shape_of-sh.ensures c.operands_end.ensures.0,
+  omega (arith, c.operands_end.ensures.1),
+)

@@ -1,5 +1,5 @@
 -- `words::bits_of` meets its contract: by the sign.
-use Rattle.std.proofs.Common.{◌≡◌, ◌-◌, ◌^◌, pos, arith, w64, to_z, of_z}
+use Rattle.std.proofs.Common.{arith, w64, of_z}
 use mir.Facts.{Fits-of_z}
 use Rattle.words.proofs.Bits.{high, low, to_z_low, flipped}
 use Rattle.words.proofs.bits_of.Goals as goal

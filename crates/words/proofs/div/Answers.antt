@@ -1,7 +1,6 @@
 -- `words::div` meets its contract: by whether the signs agree.
 use Rattle.std.proofs.Common.{ℕ, ◌/◌, ◌<◌, sym, ◌∙◌, subst, ap₂, arith}
 use mathlib.Core.Bool.{beq}
-use Rattle.arith.specs.Word.{size, negative}
 use Rattle.words.proofs.Division.{size_not_zero, quotient_word, same_signs, other_signs}
 use Rattle.words.proofs.div.Goals as goal
 

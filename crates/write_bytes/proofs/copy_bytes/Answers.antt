@@ -5,7 +5,7 @@ use Rattle.write_bytes.proofs.copy_bytes.Goals as goal
 
 pub returns : goal.returns
 returns c = let a = c.args in (
-      copied a.src.now a.out.now a.from a.n a.at _ _ c.room_for-m.ensures c.room_for-k.ensures
-          c.store_bytes.ensures,
-      omega (arith, c.room_for-m.ensures.0),
-    )
+  copied a.src.now a.out.now a.from a.n a.at _ _ c.room_for-m.ensures c.room_for-k.ensures
+      c.store_bytes.ensures,
+  omega (arith, c.room_for-m.ensures.0),
+)

@@ -13,7 +13,7 @@ put_targets-requires c = let few : c.targets.result ≤ 8 =
 
 pub returns : goal.returns
 returns c = (
-      operands_wrote c.args.sh c.args.i c.requires.1.1 c.put_two-p.ensures.0 c.put_literal-q.ensures.0
-          c.put_args-r.ensures.0 c.put_two-t.ensures.0 (rw c.targets.ensures.0 at c.put_targets.ensures.0),
-      omega (arith, c.put_two-p.ensures.1, c.put_literal-q.ensures.1, c.put_args-r.ensures.1, c.put_two-t.ensures.1),
-    )
+  operands_wrote c.args.sh c.args.i c.requires.1.1 c.put_two-p.ensures.0 c.put_literal-q.ensures.0
+      c.put_args-r.ensures.0 c.put_two-t.ensures.0 (rw c.targets.ensures.0 at c.put_targets.ensures.0),
+  omega (arith, c.put_two-p.ensures.1, c.put_literal-q.ensures.1, c.put_args-r.ensures.1, c.put_two-t.ensures.1),
+)

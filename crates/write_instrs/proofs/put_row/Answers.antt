@@ -1,5 +1,5 @@
 -- `write_instrs::put_row` meets its contract: what is left to write gives the whole answer.
-use Prim.Native.Nat.{ℕ, ◌-◌, ◌<◌}
+use Prim.Native.Nat.{ℕ, ◌<◌}
 use mathlib.Core.Path.{◌≡◌, refl, ap}
 use mathlib.Core.List.{List, [], map}
 use lib.ListN.{length, get_or, take, drop}
