@@ -191,10 +191,10 @@ made_below N k (b ∷ bs) m j l =
     (made_below N (k + count_saves N b.body) bs m.1)
 
 -- ---- types of the names of a rewriting
-get_d_map : {A B : Type 0} (g : A → B) (xs : List A) (j : ℕ) (a : A) (b : B) → j < length xs → get_or (map g xs) j b ≡ g (get_or xs j a)
-get_d_map g [] j a b l = absurd (omega arith)
-get_d_map g (x ∷ xs) zero a b l = refl
-get_d_map g (x ∷ xs) (suc j) a b l = get_d_map g xs j a b (omega arith)
+get_or_map : {A B : Type 0} (g : A → B) (xs : List A) (j : ℕ) (a : A) (b : B) → j < length xs → get_or (map g xs) j b ≡ g (get_or xs j a)
+get_or_map g [] j a b l = absurd (omega arith)
+get_or_map g (x ∷ xs) zero a b l = refl
+get_or_map g (x ∷ xs) (suc j) a b l = get_or_map g xs j a b (omega arith)
 
 -- an original name keeps its type
 pub lvn_type_original : (f : Function) (x : NameIx) → x.0 < names_of f → type_in (lvn f).types x ≡ type_in f.types x
@@ -207,7 +207,7 @@ pub lvn_type_made :
     j < length (made_from (names_of f) (lvn f).blocks) →
     type_in (lvn f).types (nm (names_of f + j)) ≡ type_in f.types (get_or (made_from (names_of f) (lvn f).blocks) j (nm 0))
 unfolding type_in lvn
-lvn_type_made f j l = get_or-append-add f.types _ j 0 ∙ get_d_map (type_in f.types) (made_from (names_of f) (lvn f).blocks) j (nm 0) 0 l
+lvn_type_made f j l = get_or-append-add f.types _ j 0 ∙ get_or_map (type_in f.types) (made_from (names_of f) (lvn f).blocks) j (nm 0) 0 l
 
 -- the names n, n + 1, .. have the types of these
 abbrev pub TypedFrom : (NameIx → ℕ) → ℕ → List NameIx → Type 0

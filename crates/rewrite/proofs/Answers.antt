@@ -15,7 +15,7 @@ use Rattle.record.specs.Reader.{got}
 use Rattle.record.specs.Read.{read}
 use Rattle.record.specs.Write.{bytes}
 use Rattle.record.specs.Answer.{checked}
-use Rattle.record.specs.Decode.{behind, names_count, record_from}
+use Rattle.record.specs.Decode.{names_count, record_from}
 use Rattle.record.specs.Again.{record_in, Reads, types_in}
 use Rattle.record.proofs.Typed.{accept_typed}
 use Rattle.record.proofs.Again.{record_again, few_names, record_ok}

@@ -5,7 +5,6 @@ use Rattle.demands.proofs.Octets.{octets}
 use Rattle.demands.proofs.rewrite_as_demanded.Goals as goal
 
 -- of a slice that is lent it is known that each element is a value of its type
-
 pub returns : goal.returns
 returns c = let bytes = octets c.args.input.now (λ i. omega (arith, c.type_inv.input i)) in
     contract_meets_demands _ _ _ _ bytes c.rewrite.ensures.0 c.rewrite.ensures.1

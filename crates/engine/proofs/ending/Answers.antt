@@ -1,5 +1,4 @@
 -- `engine::ending` meets its contract: a run with instructions left has spent its limit; else the number of its stop says how it ended.
-use borrow.Enum.Refused.{opened}
 use mathlib.Core.Path.{sym, ap, ◌∙◌, subst}
 use native.Mathlib.Omega.{arith}
 use Rattle.record.specs.Reader.{num_at}

@@ -1,7 +1,6 @@
 -- `engine::run_told` meets its contract: what the runs over no output come to is the machine's run, and the run that writes has the same
 -- events.
 use borrow.Author.Rules.{rules}
-use borrow.Author.Tests.{not-true, not-false}
 use native.Mathlib.Omega.{arith}
 use Rattle.engine.proofs.Begun.{blank, store_refused, fed}
 use Rattle.engine.proofs.Runs.{ready_on, fits_still, came_on, spot_inside}
@@ -16,18 +15,18 @@ returns-then-not-read_store c = store_refused _ _ _ _ _ _ _ c.requires.0 c.requi
 
 pub steps-t-requires : goal.steps-t-requires
 steps-t-requires c = (
-      c.requires.0.grounded,
+  c.requires.0.grounded,
+  (
+    ready_on c.steps.result c.telling-first.ensures c.steps.ensures.ready,
+    (
+      search rules,
       (
-        ready_on c.steps.result c.telling-first.ensures c.steps.ensures.ready,
-        (
-          search rules,
-          (
-            c.id_width-w.ensures.0,
-            fits_still c.steps.result c.telling-first.ensures (c.steps.ensures.calm c.requires.1.waits),
-          ),
-        ),
+        c.id_width-w.ensures.0,
+        fits_still c.steps.result c.telling-first.ensures (c.steps.ensures.calm c.requires.1.waits),
       ),
-    )
+    ),
+  ),
+)
 
 pub returns-then-t-eq-UNFIT : goal.returns-then-t-eq-UNFIT
 returns-then-t-eq-UNFIT c = let begun = c.requires.1 in
@@ -47,18 +46,18 @@ returns-then-events-t c = let begun = c.requires.1 in
 
 pub steps-requires-2 : goal.steps-requires-2
 steps-requires-2 c = (
-      c.requires.0.grounded,
+  c.requires.0.grounded,
+  (
+    ready_on c.steps.result c.telling-first.ensures c.steps.ensures.ready,
+    (
+      search rules,
       (
-        ready_on c.steps.result c.telling-first.ensures c.steps.ensures.ready,
-        (
-          search rules,
-          (
-            c.id_width-w.ensures.0,
-            fits_still c.steps.result c.telling-first.ensures (c.steps.ensures.calm c.requires.1.waits),
-          ),
-        ),
+        c.id_width-w.ensures.0,
+        fits_still c.steps.result c.telling-first.ensures (c.steps.ensures.calm c.requires.1.waits),
       ),
-    )
+    ),
+  ),
+)
 
 pub put_store-requires : goal.put_store-requires
 put_store-requires c = c.requires.0.few

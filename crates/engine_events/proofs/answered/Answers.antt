@@ -1,10 +1,8 @@
 -- `engine_events::answered` meets its contract: each of its ways is one of the machine's with this answer.
-use Prim.Native.Nat.{ℕ, ◌+◌, ◌<◌, ◌≤◌}
+use Prim.Native.Nat.{ℕ, ◌<◌}
 use mathlib.Core.Path.{sym, ap, ◌∙◌, subst}
 use native.Mathlib.Omega.{arith}
-use borrow.Author.Tests.{not-true, not-false}
 use Rattle.record.specs.Decode.{instr_end}
-use Rattle.read_fields.specs.Places.{places}
 use Rattle.engine_quiet.specs.Spot.{unfit_number}
 use Rattle.engine_events.specs.declared.Turn.{Turn}
 use Rattle.engine_events.specs.Replies.{Answered}
@@ -32,22 +30,22 @@ returns-then-kind c = let a = c.args in
     c.if-kind.true)
 
 pub overflow_add-at : goal.overflow_add-at
-overflow_add-at c = 
+overflow_add-at c =
     let near = near_by c.requires.1.1.1.1.1.0 c.args.w c.requires.1.1.1.1.0 c.well_formed.0.1 in
     omega (arith, near)
 
 pub overflow_add-at-2 : goal.overflow_add-at-2
-overflow_add-at-2 c = 
+overflow_add-at-2 c =
     let near = near_by c.requires.1.1.1.1.1.0 c.args.w c.requires.1.1.1.1.0 c.well_formed.0.1 in
     omega (arith, near)
 
 pub overflow_add-at-3 : goal.overflow_add-at-3
-overflow_add-at-3 c = 
+overflow_add-at-3 c =
     let near = near_by c.requires.1.1.1.1.1.0 c.args.w c.requires.1.1.1.1.0 c.well_formed.0.1 in
     omega (arith, near)
 
 pub takes-requires : goal.takes-requires
-takes-requires c = 
+takes-requires c =
     let near = near_by c.requires.1.1.1.1.1.0 c.args.w c.requires.1.1.1.1.0 c.well_formed.0.1 in
     let a = c.args in
     let code = c.byte_or in
@@ -82,22 +80,22 @@ returns-then-not-takes c = let a = c.args in
     (c.if-not-takes.true))
 
 pub instr_end-requires : goal.instr_end-requires
-instr_end-requires c = 
+instr_end-requires c =
     let near = near_by c.requires.1.1.1.1.1.0 c.args.w c.requires.1.1.1.1.0 c.well_formed.0.1 in
     let n = near in (n.0, omega (arith, n.1))
 
 pub onward-requires : goal.onward-requires
 onward-requires c = let a = c.args in (
-      c.requires.0,
-      (
-        c.requires.1.0.standing,
-        (
-          c.requires.1.1.0,
-          c.instr_end.ensures.0 ∙ ap
-              (λ (w : ℕ). instr_end w a.s.now a.t.spot.at) c.requires.1.1.1.1.0,
-        ),
-      ),
-    )
+  c.requires.0,
+  (
+    c.requires.1.0.standing,
+    (
+      c.requires.1.1.0,
+      c.instr_end.ensures.0 ∙ ap
+          (λ (w : ℕ). instr_end w a.s.now a.t.spot.at) c.requires.1.1.1.1.0,
+    ),
+  ),
+)
 
 pub returns : goal.returns
 returns c = let a = c.args in

@@ -1,46 +1,43 @@
 -- `engine_events::event_step` meets its contract: the event is told, and then the machine's step is ret's, or what the answer comes to.
-use Prim.Native.Nat.{ℕ, ◌+◌, ◌<◌, ◌≤◌}
+use Prim.Native.Nat.{ℕ, ◌+◌}
 use mathlib.Core.Path.{sym, ap, ◌∙◌, subst}
 use mathlib.Core.List.{List}
-use mathlib.Core.Option.{Option}
 use native.Mathlib.Omega.{arith}
-use Rattle.arith.specs.Value.{Val}
 use Rattle.record.specs.Reader.{num_at}
 use Rattle.machine.specs.Machine.{read_all}
-use Rattle.read_fields.specs.Places.{places}
 use Rattle.engine_cells.specs.Cells.{store_in}
-use Rattle.engine_events.specs.Turn.{args_at, Loud, Stepped}
+use Rattle.engine_events.specs.Turn.{args_at, Stepped}
 use Rattle.engine_events.proofs.Operands.{stands_loud}
 use Rattle.engine_events.proofs.Events.{near_by, near_row, row_by}
 use Rattle.engine_events.proofs.Steps.{told_is, told_not, step_unset, room_left, step_ret, step_told}
 use Rattle.engine_events.proofs.event_step.Goals as goal
 
 pub overflow_add-at : goal.overflow_add-at
-overflow_add-at c = 
+overflow_add-at c =
     let loud = stands_loud c.args.s.now c.args.starts.now c.args.t.spot c.requires.1.0.standing c.requires.1.1.0 c.requires.1.1.1.1.1 in
     let near = near_by loud c.args.w c.requires.1.1.1.1.0 c.well_formed.0.1 in
     omega (arith, near)
 
 pub overflow_add-at-2 : goal.overflow_add-at-2
-overflow_add-at-2 c = 
+overflow_add-at-2 c =
     let loud = stands_loud c.args.s.now c.args.starts.now c.args.t.spot c.requires.1.0.standing c.requires.1.1.0 c.requires.1.1.1.1.1 in
     let near = near_by loud c.args.w c.requires.1.1.1.1.0 c.well_formed.0.1 in
     omega (arith, near)
 
 pub overflow_add-at-3 : goal.overflow_add-at-3
-overflow_add-at-3 c = 
+overflow_add-at-3 c =
     let loud = stands_loud c.args.s.now c.args.starts.now c.args.t.spot c.requires.1.0.standing c.requires.1.1.0 c.requires.1.1.1.1.1 in
     let near = near_by loud c.args.w c.requires.1.1.1.1.0 c.well_formed.0.1 in
     omega (arith, near)
 
 pub past_if-row-requires : goal.past_if-row-requires
-past_if-row-requires c = 
+past_if-row-requires c =
     let loud = stands_loud c.args.s.now c.args.starts.now c.args.t.spot c.requires.1.0.standing c.requires.1.1.0 c.requires.1.1.1.1.1 in
     let near = near_by loud c.args.w c.requires.1.1.1.1.0 c.well_formed.0.1 in
     omega (arith, near)
 
 pub tell_event-requires : goal.tell_event-requires
-tell_event-requires c = 
+tell_event-requires c =
     let loud = stands_loud c.args.s.now c.args.starts.now c.args.t.spot c.requires.1.0.standing c.requires.1.1.0 c.requires.1.1.1.1.1 in
     let code = c.byte_or-code in
     let a = c.args in
@@ -62,7 +59,7 @@ tell_event-requires c =
     )
 
 pub returns-then-code-eq66 : goal.returns-then-code-eq66
-returns-then-code-eq66 c = 
+returns-then-code-eq66 c =
     let loud = stands_loud c.args.s.now c.args.starts.now c.args.t.spot c.requires.1.0.standing c.requires.1.1.0 c.requires.1.1.1.1.1 in
     let code = c.byte_or-code in
     let a = c.args in
@@ -75,7 +72,7 @@ returns-then-code-eq66 c =
     (sym (code.ensures.0 ∙ ap (λ (w : ℕ). num_at a.s.now (a.t.spot.at + w) 1) c.requires.1.1.1.1.0) ∙ c.if-code-eq66.true))
 
 pub answered-requires : goal.answered-requires
-answered-requires c = 
+answered-requires c =
     let loud = stands_loud c.args.s.now c.args.starts.now c.args.t.spot c.requires.1.0.standing c.requires.1.1.0 c.requires.1.1.1.1.1 in
     let a = c.args in
     let told = told_is a.s.now a.t.spot.at a.out.now _ a.t.event c.in-Is.event c.tell_event.result (read_all (store_in a.cells.now) (args_at a.s.now a.t.spot.at))
@@ -101,7 +98,7 @@ answered-requires c =
     )
 
 pub returns-else-code-eq66 : goal.returns-else-code-eq66
-returns-else-code-eq66 c = 
+returns-else-code-eq66 c =
     let loud = stands_loud c.args.s.now c.args.starts.now c.args.t.spot c.requires.1.0.standing c.requires.1.1.0 c.requires.1.1.1.1.1 in
     let code = c.byte_or-code in
     let a = c.args in
@@ -113,7 +110,7 @@ returns-else-code-eq66 c =
     c.requires.1.1.1.1.0) ∙ e)) c.answered.ensures
 
 pub returns-in-Unset : goal.returns-in-Unset
-returns-in-Unset c = 
+returns-in-Unset c =
     let loud = stands_loud c.args.s.now c.args.starts.now c.args.t.spot c.requires.1.0.standing c.requires.1.1.0 c.requires.1.1.1.1.1 in
     let a = c.args in
     let none_read = told_not a.s.now a.t.spot.at a.out.now _ a.t.event c.tell_event.result (read_all (store_in a.cells.now) (args_at a.s.now a.t.spot.at))

@@ -1,4 +1,4 @@
-
+-- `engine_events::put_event` meets its contract: the parts of the event are written one behind the other.
 use Prim.Native.Nat.{◌≤◌}
 use mathlib.Core.Path.{sym, subst}
 use native.Mathlib.Omega.{arith}
@@ -7,8 +7,6 @@ use Rattle.write_bytes.specs.Put.{IdWidth}
 use Rattle.write_bytes.proofs.Numbers.{id_width}
 use Rattle.engine_events.proofs.Events.{event_put}
 use Rattle.engine_events.proofs.put_event.Goals as goal
-
--- `engine_events::put_event` meets its contract: the parts of the event are written one behind the other.
 
 pub read_id-requires : goal.read_id-requires
 read_id-requires c = let near = c.requires.1.1.1.0 in (omega (arith, near), subst IdWidth (sym c.requires.1.0) (id_width (num_at c.args.s.now 4 1)))

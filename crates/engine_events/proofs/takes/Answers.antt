@@ -3,7 +3,7 @@ use Prim.Native.Nat.{ℕ, ◌+◌, ◌*◌, ◌<◌}
 use mathlib.Core.Path.{◌≡◌, sym, ap, ◌∙◌, subst}
 use lib.Dec.{eqb}
 use lib.ListN.{length}
-use borrow.Author.Tests.{lt-ltb, not-true, not-false}
+use borrow.Author.Tests.{lt-ltb}
 use Rattle.arith.specs.Map.{upd}
 use Rattle.arith.specs.Value.{has_type}
 use Rattle.arith.proofs.Clash.{clash}
@@ -26,11 +26,11 @@ returns-then-code-ge64 c = let a = c.args in
 
 pub returns-then-kind : goal.returns-then-kind
 returns-then-kind c = let a = c.args in (
-      takes_none a.list.now a.a a.code (type_in a.types.now (index_from a.s.now a.at)) (store_in a.cells.now)
-          (index_from a.s.now a.at) c.if-code-ge64.false (sym c.byte_or-kind.ensures.0 ∙ c.if-kind.true),
-      λ e. clash
-          (cc e),
-    )
+  takes_none a.list.now a.a a.code (type_in a.types.now (index_from a.s.now a.at)) (store_in a.cells.now)
+      (index_from a.s.now a.at) c.if-code-ge64.false (sym c.byte_or-kind.ensures.0 ∙ c.if-kind.true),
+  λ e. clash
+      (cc e),
+)
 
 pub returns-then-not-has_type : goal.returns-then-not-has_type
 returns-then-not-has_type c = let b = c.byte_or-kind in
@@ -46,10 +46,10 @@ returns-then-not-has_type c = let b = c.byte_or-kind in
 
 pub set_cell-requires : goal.set_cell-requires
 set_cell-requires c = let b = c.be16-d in (
-      b.ensures.1,
-      subst (λ (x : ℕ). 3 * x + 2 < length c.args.cells.now) (sym b.ensures.0)
-          (c.requires.1.0 (lt-ltb c.args.code 64 c.if-code-ge64.false)),
-    )
+  b.ensures.1,
+  subst (λ (x : ℕ). 3 * x + 2 < length c.args.cells.now) (sym b.ensures.0)
+      (c.requires.1.0 (lt-ltb c.args.code 64 c.if-code-ge64.false)),
+)
 
 pub returns : goal.returns
 returns c = let b = c.byte_or-kind in

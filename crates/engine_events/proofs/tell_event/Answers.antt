@@ -14,12 +14,12 @@ use Rattle.engine_events.proofs.tell_event.Goals.{then-to-out, else-to-out}
 
 pub overflow_add-result-in-Is-2 : goal.overflow_add-result-in-Is-2
 overflow_add-result-in-Is-2 c = omega (
-      arith,
-      c.row_size.ensures.1 c.in-Is.n
-          c.in-Is.is,
-      c.byte_or.ensures.0,
-      c.requires.1.1.1,
-    )
+  arith,
+  c.row_size.ensures.1 c.in-Is.n
+      c.in-Is.is,
+  c.byte_or.ensures.0,
+  c.requires.1.1.1,
+)
 
 pub shape_of-out : goal.shape_of-out
 shape_of-out c = elim c.if-to-out.branch [ then-to-out w ↦ search rules | else-to-out w ↦ search rules ]
@@ -30,8 +30,8 @@ returns-after-to-out c =
     let read = read_all (store_in a.cells.now) in
     let put : EventPut a.s.now a.at a.out.now c.if-to-out.out a.to (read (args_at a.s.now a.at)) =
     elim c.if-to-out.branch [
-      then-to-out w ↦ subst (λ (m : List ℕ). EventPut a.s.now a.at a.out.now m a.to (read (args_at a.s.now a.at))) (sym w.out-is) w.put_event.ensures |
-      else-to-out w ↦ subst (λ (m : List ℕ). EventPut a.s.now a.at a.out.now m a.to (read (args_at a.s.now a.at))) (sym w.out-is)
+      | then-to-out w ↦ subst (λ (m : List ℕ). EventPut a.s.now a.at a.out.now m a.to (read (args_at a.s.now a.at))) (sym w.out-is) w.put_event.ensures
+      | else-to-out w ↦ subst (λ (m : List ℕ). EventPut a.s.now a.at a.out.now m a.to (read (args_at a.s.now a.at))) (sym w.out-is)
           (event_past a.s.now a.at a.out.now a.to (read (args_at a.s.now a.at)) w.if-to-out.false)
     ] in
     let args = args_by c.requires.0 a.row c.byte_or.result c.requires.1.1.0 c.byte_or.ensures.0 in

@@ -1,6 +1,5 @@
 -- `engine_house::answer_at` meets its contract: the first byte, and the value behind it.
 use mathlib.Core.Path.{sym, ◌∙◌}
-use borrow.Author.Tests.{not-true, not-false}
 use Rattle.engine_house.proofs.Items.{answer_past, answer_marked, answer_untyped, answer_valued}
 use Rattle.engine_house.proofs.answer_at.Goals as goal
 

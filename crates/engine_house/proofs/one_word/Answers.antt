@@ -8,20 +8,20 @@ use Rattle.engine_house.proofs.one_word.Goals as goal
 pub returns-in-Passes : goal.returns-in-Passes
 unfolding KindAs
 returns-in-Passes c = (
-      read_is _ _ _
-          (word_read _ _ _ c.requires _ _ (sym c.eight_at.ensures ∙ ap res c.in-Is.is)
-          (sym c.literal_test.ensures ∙ c.in-Passes.is)),
-      refl,
-    )
+  read_is _ _ _
+      (word_read _ _ _ c.requires _ _ (sym c.eight_at.ensures ∙ ap res c.in-Is.is)
+      (sym c.literal_test.ensures ∙ c.in-Passes.is)),
+  refl,
+)
 
 pub returns-in-Fails : goal.returns-in-Fails
 unfolding KindAs
 returns-in-Fails c = (
-      read_no _ _ _
-          (word_unfit _ _ _ c.requires _ _ _ (sym c.eight_at.ensures ∙ ap res c.in-Is.is)
-          (sym c.literal_test.ensures ∙ c.in-Fails.is)),
-      tt,
-    )
+  read_no _ _ _
+      (word_unfit _ _ _ c.requires _ _ _ (sym c.eight_at.ensures ∙ ap res c.in-Is.is)
+      (sym c.literal_test.ensures ∙ c.in-Fails.is)),
+  tt,
+)
 
 pub returns-in-No : goal.returns-in-No
 unfolding KindAs

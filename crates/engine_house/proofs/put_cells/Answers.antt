@@ -1,5 +1,4 @@
 -- `engine_house::put_cells` meets its contract: what is left to write from here gives the whole.
-use Prim.Native.Nat.{◌-◌}
 use mathlib.Core.Path.{refl}
 use native.Mathlib.Omega.{arith}
 use borrow.Author.Rules.{rules}

@@ -10,6 +10,6 @@ returns-then-kind_in c = let a = c.args in
 
 pub returns : goal.returns
 returns c = let a = c.args in (
-      value_written a.cells.now a.x _ c.kind_in.ensures c.if-kind_in.false c.put_value.ensures.0,
-      c.put_value.ensures.1,
-    )
+  value_written a.cells.now a.x _ c.kind_in.ensures c.if-kind_in.false c.put_value.ensures.0,
+  c.put_value.ensures.1,
+)

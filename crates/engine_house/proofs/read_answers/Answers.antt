@@ -1,8 +1,6 @@
 -- `engine_house::read_answers` meets its contract: the answers still to come give the whole list.
-use Prim.Native.Nat.{◌-◌}
 use mathlib.Core.Path.{sym, ◌∙◌}
 use native.Mathlib.Omega.{arith}
-use borrow.Author.Tests.{not-true, not-false}
 use Rattle.engine_house.proofs.Answers.{list_closed, list_start, list_went, list_moved, list_stopped, list_done}
 use Rattle.engine_house.proofs.read_answers.Goals as goal
 

@@ -1,9 +1,7 @@
 -- `engine_house::read_store` meets its contract: the rest from here gives the whole store.
-use Prim.Native.Nat.{◌-◌}
 use mathlib.Core.Path.{sym, ◌∙◌}
 use native.Mathlib.Omega.{arith}
 use borrow.Author.Rules.{rules}
-use borrow.Author.Tests.{not-true, not-false}
 use Rattle.engine_house.proofs.Store.{store_closed, store_start, store_went, store_stopped, store_done}
 use Rattle.engine_house.proofs.read_store.Goals as goal
 
@@ -13,11 +11,11 @@ returns-then-not-opens c = let a = c.args in
 
 pub loop-i-init : goal.loop-i-init
 loop-i-init c = let a = c.args in (
-      omega arith,
-      c.requires.0.many,
-      c.requires.1,
-      store_start a.s.now a.types.now a.cells.now (sym c.opens.ensures.0 ∙ c.if-not-opens.false) c.requires.0,
-    )
+  omega arith,
+  c.requires.0.many,
+  c.requires.1,
+  store_start a.s.now a.types.now a.cells.now (sym c.opens.ensures.0 ∙ c.if-not-opens.false) c.requires.0,
+)
 
 pub returns-in-No : goal.returns-in-No
 returns-in-No c = let l = c.loop-i in

@@ -1,6 +1,5 @@
 -- `engine_house::stored_at` meets its contract: the first byte, the value behind it, and its type.
 use mathlib.Core.Path.{sym, ◌∙◌}
-use borrow.Author.Tests.{not-true, not-false}
 use Rattle.engine_house.proofs.Items.{stored_past, stored_nothing, stored_untyped, no_stored, is_nothing, stored_fit, stored_unfit, stored_missing}
 use Rattle.engine_house.proofs.stored_at.Goals as goal
 

@@ -8,20 +8,20 @@ use Rattle.engine_house.proofs.two_words.Goals as goal
 pub returns-in-Is-eight_at : goal.returns-in-Is-eight_at
 unfolding KindAs
 returns-in-Is-eight_at c = (
-      read_is _ _ _
-          (two_read _ _ _ c.requires _ _ _ _ (sym c.eight_at.ensures ∙ ap res c.in-Is.is)
-          (sym c.eight_at-in-Is.ensures ∙ ap res c.in-Is-eight_at.is)),
-      refl,
-    )
+  read_is _ _ _
+      (two_read _ _ _ c.requires _ _ _ _ (sym c.eight_at.ensures ∙ ap res c.in-Is.is)
+      (sym c.eight_at-in-Is.ensures ∙ ap res c.in-Is-eight_at.is)),
+  refl,
+)
 
 pub returns-in-No-eight_at : goal.returns-in-No-eight_at
 unfolding KindAs
 returns-in-No-eight_at c = (
-      read_no _ _ _
-          (second_missing _ _ _ c.requires _ _ _ _ (sym c.eight_at.ensures ∙ ap res c.in-Is.is)
-          (sym c.eight_at-in-Is.ensures ∙ ap res c.in-No-eight_at.is)),
-      tt,
-    )
+  read_no _ _ _
+      (second_missing _ _ _ c.requires _ _ _ _ (sym c.eight_at.ensures ∙ ap res c.in-Is.is)
+      (sym c.eight_at-in-Is.ensures ∙ ap res c.in-No-eight_at.is)),
+  tt,
+)
 
 pub returns-in-No : goal.returns-in-No
 unfolding KindAs

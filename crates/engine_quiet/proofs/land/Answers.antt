@@ -1,5 +1,4 @@
 -- `engine_quiet::land` meets its contract: landing at the block looked at is landing at the first.
-use Prim.Native.Nat.{◌-◌}
 use mathlib.Core.Path.{refl}
 use native.Mathlib.Omega.{arith}
 use Rattle.engine_quiet.proofs.Landing.{land_empty, land_found, land_ended}

@@ -9,6 +9,6 @@ returns-then-left-n c = (part_cut _ _ _ _ refl c.be32.ensures.0 (omega (arith, c
 
 pub returns : goal.returns
 returns c = (
-      part_whole _ _ _ _ refl c.be32.ensures.0 (omega (arith, c.if-left-n.false, c.left.ensures)),
-      (omega arith, omega (arith, c.if-left-n.false, c.left.ensures)),
-    )
+  part_whole _ _ _ _ refl c.be32.ensures.0 (omega (arith, c.if-left-n.false, c.left.ensures)),
+  (omega arith, omega (arith, c.if-left-n.false, c.left.ensures)),
+)

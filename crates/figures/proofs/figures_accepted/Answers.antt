@@ -13,10 +13,10 @@ returns-then-each-head c = let r = too_few c.args.s.now c.args.each.now _ (count
 
 pub overflow_add-result : goal.overflow_add-result
 overflow_add-result c = omega (
-      arith,
-      (accepted_reads _ c.requires _ c.layout_of-head.ensures.0
-          c.layout_of-head.ensures.1).near,
-    )
+  arith,
+  (accepted_reads _ c.requires _ c.layout_of-head.ensures.0
+      c.layout_of-head.ensures.1).near,
+)
 
 pub returns-then-head-eq0 : goal.returns-then-head-eq0
 returns-then-head-eq0 c = let p = c.requires in

@@ -8,9 +8,9 @@ use Rattle.figures.proofs.figures_noting.Goals as goal
 
 pub measure-size-requires : goal.measure-size-requires
 measure-size-requires c = let p = c.requires in (
-      record { reads = p.0.reads; types = p.0.types; heads = search rules; nums = search rules; names = p.1.0 },
-      p.0.places,
-    )
+  record { reads = p.0.reads; types = p.0.types; heads = search rules; nums = search rules; names = p.1.0 },
+  p.0.places,
+)
 
 pub returns : goal.returns
 returns c = let p = c.requires in

@@ -1,11 +1,7 @@
 -- `lvn_blocks::blocks_lvn` meets its contract: what is left from here gives the whole, and the total is K.
-use Prim.Native.Nat.{ℕ}
-use mathlib.Core.List.{List}
 use mathlib.Core.Path.{◌≡◌, refl, ◌∙◌}
 use native.Mathlib.Omega.{arith}
 use lib.ListN.{length}
-use Rattle.record.specs.Record.{Instr, Block, Function}
-use Rattle.read_layout.specs.declared.Layout.{Layout}
 use Rattle.lvn_blocks.proofs.Blocks.{laid_out, going_all, going_none, going_less, alike_less, ask_one, ask_less}
 use Rattle.lvn_blocks.proofs.Heads.{block_figure, figure_fits}
 use Rattle.lvn_blocks.proofs.blocks_lvn.Invariants.{function_of}

@@ -1,12 +1,8 @@
 -- `lvn_blocks::body_lvn` meets its contract: what is left from here gives the whole.
-use Prim.Native.Nat.{ℕ}
-use mathlib.Core.List.{List}
 use mathlib.Core.Path.{◌≡◌, refl, ◌∙◌}
 use native.Mathlib.Omega.{arith}
-use lib.ListN.{length}
 use Rattle.lvn_state.specs.View.{state_of}
 use Rattle.lvn_blocks.proofs.Turned.{going_all, going_none, going_less, asks_one, asks_less}
-use Rattle.lvn_blocks.proofs.body_lvn.Invariants.{Kept}
 use Rattle.lvn_blocks.proofs.body_lvn.Goals as goal
 
 pub loop-left-init : goal.loop-left-init

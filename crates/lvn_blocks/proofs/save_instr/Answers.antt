@@ -15,15 +15,15 @@ use Rattle.lvn_blocks.proofs.save_instr.Goals as goal
 pub returns : goal.returns
 unfolding instr_of code_of literal_of
 returns c = let a = c.args in (
-      (λ z.
-          record {
-            id = a.i.id;
-            code = code1 Id;
-            dest = a.made;
-            lit = no_lit;
-            args = a.i.dest ∷ [];
-            callee = 0;
-            blocks = take (targets (one_shape Id z) 1) (replicate 8 0);
-          }),
-      (refl, omega arith),
-    )
+  (λ z.
+      record {
+        id = a.i.id;
+        code = code1 Id;
+        dest = a.made;
+        lit = no_lit;
+        args = a.i.dest ∷ [];
+        callee = 0;
+        blocks = take (targets (one_shape Id z) 1) (replicate 8 0);
+      }),
+  (refl, omega arith),
+)

@@ -11,7 +11,6 @@ use Rattle.record.specs.Record.{Lit}
 use Rattle.lvn_instr.proofs.literal_for.Goals as goal
 
 -- the literal of the int z, whose word is w
-
 int_literal :
     (w : ℕ) (z : ℤ) → Fits w64 w → to_z w64 (of_z w64 z) ≡ z → z ≡ to_z w64 w →
     ◌≡◌ {A = Lit} (record { kind = 0; bits = of_z w64 (to_z w64 (of_z w64 z)) }) (record { kind = 0; bits = w })

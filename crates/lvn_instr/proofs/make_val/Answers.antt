@@ -21,15 +21,15 @@ returns-in-Const c = let a = c.args in
 
 pub returns-in-One : goal.returns-in-One
 returns-in-One c = (
-      (λ s types h e. c.value_one.ensures.0 s h ∙ one_arm c.args.i c.requires.0 s types c.in-One.o c.in-One.is),
-      c.value_one.ensures.1,
-    )
+  (λ s types h e. c.value_one.ensures.0 s h ∙ one_arm c.args.i c.requires.0 s types c.in-One.o c.in-One.is),
+  c.value_one.ensures.1,
+)
 
 pub returns-in-Two : goal.returns-in-Two
 returns-in-Two c = (
-      (λ s types h e. c.value_two.ensures.0 s h ∙ two_arm c.args.i c.requires.0 s types c.in-Two.o c.in-Two.is),
-      c.value_two.ensures.1,
-    )
+  (λ s types h e. c.value_two.ensures.0 s h ∙ two_arm c.args.i c.requires.0 s types c.in-Two.o c.in-Two.is),
+  c.value_two.ensures.1,
+)
 
 pub returns-in_default : goal.returns-in_default
 returns-in_default c = ((λ s types h e. new_arm c.args.i c.requires.0 s types (opened c.in_default.in_default-own.keys4)), tt)

@@ -14,14 +14,14 @@ returns-in-Constant c = ((λ s e. rw c.in-Constant.is c.make_const_instr.ensures
 
 pub returns-in-One : goal.returns-in-One
 returns-in-One c = let a = c.args in (
-      (λ s e. rw c.in-One.is (c.make_one_instr.ensures.0 ∙ one_written s a.homes.now (instr_of a.i) c.in-One.o c.in-One.a e)),
-      c.make_one_instr.ensures.1,
-    )
+  (λ s e. rw c.in-One.is (c.make_one_instr.ensures.0 ∙ one_written s a.homes.now (instr_of a.i) c.in-One.o c.in-One.a e)),
+  c.make_one_instr.ensures.1,
+)
 
 pub returns-in-Two : goal.returns-in-Two
 returns-in-Two c = let a = c.args in (
-      (λ s e. rw c.in-Two.is
-          (c.make_two_instr.ensures.0 ∙
-          two_written s a.homes.now (instr_of a.i) c.in-Two.o c.in-Two.a c.in-Two.b e)),
-      c.make_two_instr.ensures.1,
-    )
+  (λ s e. rw c.in-Two.is
+      (c.make_two_instr.ensures.0 ∙
+      two_written s a.homes.now (instr_of a.i) c.in-Two.o c.in-Two.a c.in-Two.b e)),
+  c.make_two_instr.ensures.1,
+)

@@ -1,5 +1,4 @@
 -- `lvn_values::find` meets its contract: the search from here on gives the whole answer.
-use mathlib.Core.Logic.{⊎_elim}
 use Rattle.lvn_values.proofs.Search.{search_none, hit, other_head, other_num}
 use borrow.Author.Rules.{rules}
 use native.Mathlib.Omega.{arith}
@@ -22,8 +21,8 @@ loop-i-preserved c = let a = c.args in
     let i = c.loop-i in (
       search rules,
       λ e h. elim c.if-heads-i.branch [
-        then-heads-i+else-nums-i w ↦ other_num a.heads.now a.nums.now a.head a.num a.count i.i e h c.loop-i-test.true w.if-nums-i.false ∙ i.invariant.1 e h |
-        else-heads-i w ↦ other_head a.heads.now a.nums.now a.head a.num a.count i.i e h c.loop-i-test.true w.if-heads-i.false ∙ i.invariant.1 e h
+        | then-heads-i+else-nums-i w ↦ other_num a.heads.now a.nums.now a.head a.num a.count i.i e h c.loop-i-test.true w.if-nums-i.false ∙ i.invariant.1 e h
+        | else-heads-i w ↦ other_head a.heads.now a.nums.now a.head a.num a.count i.i e h c.loop-i-test.true w.if-heads-i.false ∙ i.invariant.1 e h
       ],
     )
 

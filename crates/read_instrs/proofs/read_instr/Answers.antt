@@ -15,13 +15,13 @@ overflow_add-at-3 c = record { fits = omega (arith, width_most c.requires.1.0) }
 
 pub read_operands-requires : goal.read_operands-requires
 read_operands-requires c = (
-      omega (arith, width_most c.requires.1.0),
-      (
-        c.shape_of.ensures,
-        readable_parts c.args.w c.args.s.now c.args.at _ _ _
-            c.read_id-id.ensures.0 c.byte_or-code.ensures.0 c.shape_of.ensures c.requires.1.1,
-      ),
-    )
+  omega (arith, width_most c.requires.1.0),
+  (
+    c.shape_of.ensures,
+    readable_parts c.args.w c.args.s.now c.args.at _ _ _
+        c.read_id-id.ensures.0 c.byte_or-code.ensures.0 c.shape_of.ensures c.requires.1.1,
+  ),
+)
 
 pub returns : goal.returns
 returns c = let a = c.args in

@@ -41,9 +41,14 @@ read_row-requires c =
 
 pub two_if-requires-2 : goal.two_if-requires-2
 two_if-requires-2 c =
-    omega
-    (arith, few c.args.sh c.args.s.now c.args.at c.args.id c.args.code _ _ _ c.past_if-lit.ensures.0 c.past_if-count.ensures.0 c.count_from-n.ensures.0 c.requires.1.1,
-    c.requires.0, c.past_if-lit.ensures.1, c.past_if-count.ensures.1, c.past_if-callee.ensures.1)
+    omega (
+      arith,
+      few c.args.sh c.args.s.now c.args.at c.args.id c.args.code _ _ _ c.past_if-lit.ensures.0 c.past_if-count.ensures.0 c.count_from-n.ensures.0 c.requires.1.1,
+      c.requires.0,
+      c.past_if-lit.ensures.1,
+      c.past_if-count.ensures.1,
+      c.past_if-callee.ensures.1,
+    )
 
 -- at most eight block numbers, and the place of the first of them is near
 pub read_row-requires-2 : goal.read_row-requires-2
@@ -77,8 +82,8 @@ returns c =
     few c.args.sh c.args.s.now c.args.at c.args.id c.args.code _ _ _ c.past_if-lit.ensures.0 c.past_if-count.ensures.0 c.count_from-n.ensures.0 c.requires.1.1 in
     let e : c.targets-m.result ≤ 8 = rw (c.targets-m.ensures.0, c.requires.1.0) (shape_targets c.args.code c.count_from-n.result f) in
     let places :
-        Places c.args.sh c.args.s.now c.args.at c.past_if-lit.result c.past_if-count.result c.count_from-n.result c.past_if-callee.result
-        c.past_if-blocks.result c.targets-m.result =
+    Places c.args.sh c.args.s.now c.args.at c.past_if-lit.result c.past_if-count.result c.count_from-n.result c.past_if-callee.result
+    c.past_if-blocks.result c.targets-m.result =
     record {
       counted = known c.args.sh c.args.s.now c.args.at _ _ _ c.past_if-lit.ensures.0 c.past_if-count.ensures.0 c.count_from-n.ensures.0;
       callee_is = c.past_if-callee.ensures.0;

@@ -4,8 +4,7 @@ use native.Mathlib.Omega.{arith}
 use Rattle.read_layout.proofs.Ends.{operands_past}
 use Rattle.read_layout.proofs.operands_end.Goals as goal
 
--- a number of one byte
-
+-- the number of block numbers is one of one byte
 pub overflow_mul-result : goal.overflow_mul-result
 overflow_mul-result c = record { fits = omega (arith, c.targets.ensures.1 c.count_from-n.ensures.1) }
 

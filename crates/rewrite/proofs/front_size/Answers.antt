@@ -15,6 +15,6 @@ overflow_add-result-2 c = let p = c.requires in
 
 pub returns : goal.returns
 returns c = let p = c.requires in (
-      front_measured p.0 p.1.0 c.made_size.ensures.0,
-      (omega (arith, p.0.near, c.made_size.ensures.1, few_made p.0 p.1.0), omega arith),
-    )
+  front_measured p.0 p.1.0 c.made_size.ensures.0,
+  (omega (arith, p.0.near, c.made_size.ensures.1, few_made p.0 p.1.0), omega arith),
+)

@@ -14,9 +14,9 @@ copy_names-p-requires c = let p = c.requires in
 
 pub put_made_names-q-requires : goal.put_made_names-q-requires
 put_made_names-q-requires c = let p = c.requires in (
-      omega (arith, p.0.near, c.copy_names-p.ensures.1),
-      (few_made p.0 p.1.0, (p.1.0.room, (made_named p.0 p.1.0, (made_short p.0 p.1.0, p.1.1)))),
-    )
+  omega (arith, p.0.near, c.copy_names-p.ensures.1),
+  (few_made p.0 p.1.0, (p.1.0.room, (made_named p.0 p.1.0, (made_short p.0 p.1.0, p.1.1)))),
+)
 
 pub put_u16-requires : goal.put_u16-requires
 put_u16-requires c = let p = c.requires in
@@ -28,11 +28,11 @@ overflow_add-result c = let p = c.requires in
 
 pub returns : goal.returns
 returns c = let p = c.requires in (
-      front_put p.0 p.1.0 _ _ _ _ _ c.put_u32.ensures c.put_record_head.ensures c.copy_names-p.ensures.0
-          c.put_made_names-q.ensures.0 c.put_u16.ensures c.byte_or-version.ensures.0 c.byte_or-args.ensures.0
-          (omega (arith, c.be16-n.ensures.0)) c.be16-count.ensures.0,
-      (
-        omega (arith, p.0.near, c.copy_names-p.ensures.1, few_made p.0 p.1.0, c.put_made_names-q.ensures.1),
-        names_before p.0 c.copy_names-p.ensures.0.end (omega (arith, c.put_made_names-q.ensures.0.end)),
-      ),
-    )
+  front_put p.0 p.1.0 _ _ _ _ _ c.put_u32.ensures c.put_record_head.ensures c.copy_names-p.ensures.0
+      c.put_made_names-q.ensures.0 c.put_u16.ensures c.byte_or-version.ensures.0 c.byte_or-args.ensures.0
+      (omega (arith, c.be16-n.ensures.0)) c.be16-count.ensures.0,
+  (
+    omega (arith, p.0.near, c.copy_names-p.ensures.1, few_made p.0 p.1.0, c.put_made_names-q.ensures.1),
+    names_before p.0 c.copy_names-p.ensures.0.end (omega (arith, c.put_made_names-q.ensures.0.end)),
+  ),
+)

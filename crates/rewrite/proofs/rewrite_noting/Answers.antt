@@ -6,9 +6,9 @@ use Rattle.rewrite.proofs.rewrite_noting.Goals as goal
 
 pub put_once-size-requires : goal.put_once-size-requires
 put_once-size-requires c = let p = c.requires in (
-      record { reads = p.0.reads; types = p.0.types; heads = search rules; nums = search rules; names = p.1 },
-      (p.0.places, eight_times c.args.out.now p.0.reads c.if-out-s.true),
-    )
+  record { reads = p.0.reads; types = p.0.types; heads = search rules; nums = search rules; names = p.1 },
+  (p.0.places, eight_times c.args.out.now p.0.reads c.if-out-s.true),
+)
 
 pub returns-then-out-s : goal.returns-then-out-s
 returns-then-out-s c = let out = c.args.out.now in

@@ -43,6 +43,6 @@ loop-left-preserved c = let h = c.loop-left-test.true in
 
 pub returns : goal.returns
 returns c = let a = c.args in (
-      rest_none _ (names_none a.s.now a.made.now c.loop-left.i c.loop-left.left c.loop-left-test.false) c.loop-left.invariant.1.1.1,
-      omega (arith, c.loop-left.invariant.1.0),
-    )
+  rest_none _ (names_none a.s.now a.made.now c.loop-left.i c.loop-left.left c.loop-left-test.false) c.loop-left.invariant.1.1.1,
+  omega (arith, c.loop-left.invariant.1.0),
+)

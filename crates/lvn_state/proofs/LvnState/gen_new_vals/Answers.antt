@@ -1,15 +1,14 @@
 -- `lvn_state::LvnState::gen_new_vals` meets its contract.
-use Prim.Native.Nat.{ℕ, ◌+◌, ◌-◌, ◌<◌, ◌≤◌}
-use mathlib.Core.List.{List, []}
+use Prim.Native.Nat.{◌+◌, ◌-◌, ◌<◌, ◌≤◌}
+use mathlib.Core.List.{[]}
 use mathlib.Core.Path.{◌≡◌, refl, sym, ap, ◌∙◌}
 use native.Mathlib.Omega.{arith}
 use lib.ListN.{length, get_or}
 use borrow.Author.Rules.{rules}
 use Rattle.record.specs.Record.{nm}
 use Rattle.numbering.specs.State.{State, gen_new_vals}
-use Rattle.lvn_state.specs.Room.{Low, room, Maps}
-use Rattle.lvn_state.specs.View.{state_of, names_in}
-use Rattle.lvn_state.specs.declared.LvnState.{LvnState}
+use Rattle.lvn_state.specs.Room.{room}
+use Rattle.lvn_state.specs.View.{state_of}
 use Rattle.lvn_state.proofs.Room.{next_room, maps_kept}
 use Rattle.lvn_state.proofs.Seen.{rest, low_first, low_rest, seen_first, seen_all, seen_room}
 use Rattle.lvn_state.proofs.LvnState.gen_new_vals.Goals as goal

@@ -4,7 +4,6 @@ use mathlib.Core.Path.{◌≡◌, sym, ◌∙◌}
 use native.Mathlib.Omega.{arith}
 use Rattle.numbering.specs.View.{expr_of}
 use Rattle.lvn_state.specs.View.{locs_of, itself}
-use Rattle.lvn_state.proofs.Itself.{not_true, not_false}
 use Rattle.lvn_state.proofs.Saves.{kept_itself, kept_past, kept_away, save_made}
 use Rattle.lvn_state.proofs.LvnState.handle_overwrite.Goals as goal
 
