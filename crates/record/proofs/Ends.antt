@@ -52,6 +52,10 @@ operands_past sh s at id code =
     let he : operands_end sh s at ≡ t + 2 * targets sh (count_from sh s c) = behind_two t (targets sh (count_from sh s c)) in
     omega (arith, hm, hl, hc, ha, ht, he)
 
+-- the operands end not before they begin
+pub operands_on : (sh : Shape) (s : List ℕ) (at : ℕ) → at ≤ operands_end sh s at
+operands_on sh s at = omega (arith, operands_past sh s at 0 0)
+
 module _ (w : ℕ) (s : List ℕ) where
   instr_past : (at : ℕ) → instr_end w s at ≡ at + length (instr_bytes w (instr_from w s at))
   unfolding instr_end instr_from operands_from
