@@ -1,6 +1,8 @@
 // The program: standard input to standard output through rewrite. Run on C1.
 #![tactic(auto)]
 
-fn main() {
-    filter::run();
+use std::io;
+
+fn main(rt: HostRuntime) -> io::Result<()> {
+    filter::run(&mut rt.stdin(), &mut rt.stdout())
 }

@@ -2,9 +2,9 @@
 // offset, 0 0 for a record that is accepted. Writes how many answers agree and how many do not.
 #![tactic(auto)]
 
-use libc::STDIN_FILENO;
 use record::Checked;
 use replay_lines::{Counts, Line};
+use std::io;
 
 // Whether check answered with this number and offset.
 pub fn checked_so(c: Checked, number: u64, offset: u64) -> bool {
@@ -37,8 +37,8 @@ pub fn replay(text: &[u8]) -> Counts {
     counts
 }
 
-fn main() {
+fn main(rt: HostRuntime) -> io::Result<()> {
     let mut text = [0u8; replay_lines::LONGEST];
-    let n = io::read_full(STDIN_FILENO, &mut text);
-    replay_lines::print_counts(replay(&text[..n]));
+    let n = read_input::read_full(&mut rt.stdin(), &mut text)?;
+    replay_lines::print_counts(&mut rt.stdout(), replay(&text[..n]))
 }

@@ -5,9 +5,9 @@
 
 ghost use Rattle.std.specs.Prelude.{◌≤◌, length};
 
-use libc::STDIN_FILENO;
 use numbering::Figured;
 use replay_lines::{Counts, Line, Part};
+use std::io;
 
 // More places than an accepted record has blocks.
 const MOST: usize = 66;
@@ -162,8 +162,8 @@ pub fn replay(text: &[u8]) -> Counts {
     counts
 }
 
-fn main() {
+fn main(rt: HostRuntime) -> io::Result<()> {
     let mut text = [0u8; replay_lines::LONGEST];
-    let n = io::read_full(STDIN_FILENO, &mut text);
-    replay_lines::print_counts(replay(&text[..n]));
+    let n = read_input::read_full(&mut rt.stdin(), &mut text)?;
+    replay_lines::print_counts(&mut rt.stdout(), replay(&text[..n]))
 }

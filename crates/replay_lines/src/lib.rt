@@ -4,7 +4,8 @@
 
 ghost use Rattle.std.specs.Prelude.{◌+◌, ◌<◌, ◌≤◌, length};
 
-use libc::STDOUT_FILENO;
+use std::io;
+use std::io::Write;
 
 // The length of the longest list, in bytes.
 pub const LONGEST: usize = 524288;
@@ -160,10 +161,9 @@ pub fn counted(counts: Counts, line: Line, end: usize) -> Counts
     }
 }
 
-// Writes the counts to standard output.
-pub fn print_counts(counts: Counts) {
-    io::print_decimal(STDOUT_FILENO, counts.same);
-    io::write_all(STDOUT_FILENO, b" agree, ");
-    io::print_decimal(STDOUT_FILENO, counts.other);
-    io::write_all(STDOUT_FILENO, b" differ\n");
+// Writes the counts.
+pub fn print_counts<W: Write>(to: &mut W, counts: Counts) -> io::Result<()> {
+    let same = counts.same;
+    let other = counts.other;
+    writeln!(to, "{same} agree, {other} differ")
 }

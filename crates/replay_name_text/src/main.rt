@@ -3,10 +3,10 @@
 // bytes. Writes for how many lines name text tells so, and for how many not.
 #![tactic(auto)]
 
-use libc::STDIN_FILENO;
 use name_text::Found;
 use numbering::Named;
 use replay_lines::{Counts, Line};
+use std::io;
 
 // What a line says of the answer and of the part, and where its bytes begin.
 #[derive(Clone, Copy)]
@@ -132,8 +132,8 @@ pub fn replay(text: &[u8]) -> Counts {
     counts
 }
 
-fn main() {
+fn main(rt: HostRuntime) -> io::Result<()> {
     let mut text = [0u8; replay_lines::LONGEST];
-    let n = io::read_full(STDIN_FILENO, &mut text);
-    replay_lines::print_counts(replay(&text[..n]));
+    let n = read_input::read_full(&mut rt.stdin(), &mut text)?;
+    replay_lines::print_counts(&mut rt.stdout(), replay(&text[..n]))
 }

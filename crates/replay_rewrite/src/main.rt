@@ -3,9 +3,9 @@
 // Writes for how many lines rewrite answers so, and for how many not.
 #![tactic(auto)]
 
-use libc::STDIN_FILENO;
 use numbering::Rewritten;
 use replay_lines::{Counts, Line};
+use std::io;
 
 // The length of the longest output.
 const MOST: usize = 8192;
@@ -122,8 +122,8 @@ pub fn replay(text: &[u8]) -> Counts {
     counts
 }
 
-fn main() {
+fn main(rt: HostRuntime) -> io::Result<()> {
     let mut text = [0u8; replay_lines::LONGEST];
-    let n = io::read_full(STDIN_FILENO, &mut text);
-    replay_lines::print_counts(replay(&text[..n]));
+    let n = read_input::read_full(&mut rt.stdin(), &mut text)?;
+    replay_lines::print_counts(&mut rt.stdout(), replay(&text[..n]))
 }

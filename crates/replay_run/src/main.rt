@@ -6,9 +6,9 @@
 ghost use Rattle.std.specs.Prelude.{◌≤◌, length};
 
 use engine_answer::Five;
-use libc::STDIN_FILENO;
 use replay_lines::{Counts, Line, Part};
 use running::Ran;
+use std::io;
 
 // The most bytes of the events and of a store, and as many more as are lent at most, with as many behind them that are not.
 const EVENTS: usize = 16390;
@@ -263,8 +263,8 @@ pub fn replay(text: &[u8]) -> Counts {
     counts
 }
 
-fn main() {
+fn main(rt: HostRuntime) -> io::Result<()> {
     let mut text = [0u8; replay_lines::LONGEST];
-    let n = io::read_full(STDIN_FILENO, &mut text);
-    replay_lines::print_counts(replay(&text[..n]));
+    let n = read_input::read_full(&mut rt.stdin(), &mut text)?;
+    replay_lines::print_counts(&mut rt.stdout(), replay(&text[..n]))
 }

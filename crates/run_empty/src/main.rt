@@ -1,6 +1,8 @@
 // The program, run on nothing.
 #![tactic(auto)]
 
-fn main() {
-    filter::run();
+use std::io;
+
+fn main(rt: HostRuntime) -> io::Result<()> {
+    filter::run(&mut rt.stdin(), &mut rt.stdout())
 }
