@@ -6,6 +6,7 @@
 use numbering::Rewritten;
 use replay_lines::{Counts, Line};
 use std::io;
+use std::io::{Read, Write};
 
 // The length of the longest output.
 const MOST: usize = 8192;
@@ -122,8 +123,18 @@ pub fn replay(text: &[u8]) -> Counts {
     counts
 }
 
+// The list that is read, told in what is written: how many lines agree, and how many do not.
+pub fn tell<R: Read, W: Write>(
+    reader: &mut R,
+    writer: &mut W,
+    text: &mut [u8; replay_lines::LONGEST],
+) -> io::Result<()> {
+    let list: &mut [u8] = text;
+    let n = read_input::read_full(reader, list)?;
+    replay_lines::print_counts(writer, replay(&list[..n]))
+}
+
 fn main(rt: HostRuntime) -> io::Result<()> {
     let mut text = [0u8; replay_lines::LONGEST];
-    let n = read_input::read_full(&mut rt.stdin(), &mut text)?;
-    replay_lines::print_counts(&mut rt.stdout(), replay(&text[..n]))
+    tell(&mut rt.stdin(), &mut rt.stdout(), &mut text)
 }
