@@ -2,11 +2,19 @@
 // report::program takes; any other is an error of type.
 #![tactic(auto)]
 
+ghost use Rattle.std.specs.Prelude.{IfSome, OnOk};
+ghost use Rattle.std.specs.Io.KnownBytes.{Appends};
+ghost use Rattle.numbering.specs.Program.{program_output};
+
 use std::io;
 use std::io::{Read, Write};
 
-// Input to output through rewrite. It reads a byte more than it takes, so that an input that is too long is told.
-pub fn run<R: Read, W: Write>(reader: &mut R, writer: &mut W) -> io::Result<()> {
+// Input to output through rewrite: of a reader whose bytes are known, what is written without an error is the program's output. It reads a
+// byte more than it takes, so that an input that is too long is told.
+pub fn run<R: Read, W: Write>(reader: &mut R, writer: &mut W) -> io::Result<()>
+    ensures { OnOk result (IfSome (R.remaining reader.old)
+        (λ xs. Appends (W.contents writer.old) (W.contents writer.new) (program_output xs))) }
+{
     let mut input = [0u8; 8193];
     let mut buffer = [0u8; 65536];
     let count = read_input::read_full(reader, &mut input)?;
