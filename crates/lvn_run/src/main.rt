@@ -2,21 +2,45 @@
 // standard output. Run on a = call 3 (a); print a, with 5 in a, the answers 6 and go on, and 9 steps.
 #![tactic(auto)]
 
+ghost use Rattle.std.specs.Prelude.{IfSome, OnOk};
+ghost use Rattle.std.specs.Io.KnownBytes.{Appends};
+ghost use Rattle.running.specs.Program.{run_output};
+
 use std::io;
-use std::io::Write;
+use std::io::{Read, Write};
+
+// Input to output, by way of the arrays lent: of a reader whose bytes are known, what is written without an error is the program's output. It
+// reads a byte more than it takes, so that an input that is too long is told.
+pub fn run<R: Read, W: Write>(
+    reader: &mut R,
+    writer: &mut W,
+    input: &mut [u8; 262145],
+    events: &mut [u8; 1048576],
+    left: &mut [u8; 8192],
+) -> io::Result<()>
+    ensures { OnOk result (IfSome (R.remaining reader.old)
+        (λ xs. Appends (W.contents writer.old) (W.contents writer.new) (run_output xs))) }
+{
+    let mut head = [0u8; 41];
+    let n = read_input::read_full(reader, input)?;
+    let parts = engine_report::program(input, n, events, left, &mut head);
+    let h = parts.head;
+    let e = parts.events;
+    let l = parts.left;
+    writer.write_all(&head[..h])?;
+    writer.write_all(&events[..e])?;
+    writer.write_all(&left[..l])
+}
 
 fn main(rt: HostRuntime) -> io::Result<()> {
     let mut input = [0u8; 262145];
     let mut events = [0u8; 1048576];
     let mut left = [0u8; 8192];
-    let mut head = [0u8; 41];
-    let n = read_input::read_full(&mut rt.stdin(), &mut input)?;
-    let parts = engine_report::program(&input, n, &mut events, &mut left, &mut head);
-    let h = parts.head;
-    let e = parts.events;
-    let l = parts.left;
-    let mut out = rt.stdout();
-    out.write_all(&head[..h])?;
-    out.write_all(&events[..e])?;
-    out.write_all(&left[..l])
+    run(
+        &mut rt.stdin(),
+        &mut rt.stdout(),
+        &mut input,
+        &mut events,
+        &mut left,
+    )
 }
