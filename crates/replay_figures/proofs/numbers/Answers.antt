@@ -1,6 +1,5 @@
 -- `replay_figures::numbers` meets its contract: a store leaves the places as many as they were.
 use lib.ListN.{length-set}
-use Prim.Native.Nat.{◌-◌}
 use native.Mathlib.Omega.{arith}
 use Rattle.replay_figures.proofs.numbers.Goals as goal
 

@@ -1,5 +1,5 @@
 -- `replay_lines::decode` meets its contract: a store leaves the output as long as it was.
-use Rattle.std.proofs.Common.{◌-◌, arith, length-set}
+use Rattle.std.proofs.Common.{arith, length-set}
 use Rattle.replay_lines.proofs.decode.Goals as goal
 
 pub loop-n-preserved : goal.loop-n-preserved
