@@ -22,8 +22,8 @@ DECLARED = re.compile(r"^\s*(?:(?:pub|abbrev|unfoldable|opaque|private)\s+)*([^\
 MADE = re.compile(r"^(?:returns|invariant|decreases|loop|overflow_\w+|nonzero_\w+|bounds|slice_bounds|Need|Then|After|the)-|-requires(-\d+)?$|-(init|preserved|smaller)$")
 # a suffix of a word's name that is one capital, and an older name of the library's get_or
 SPELLED = {"getD": "get_or", "toZ": "to_z"}
-# names that would fall together with another of their file
-APART = {"as-int": "was_int", "as-bool": "was_bool", "bool-byte": "bool_byte_is", "in-range": "ranges"}
+# names that would fall together with another of their file, and two that read like names that Rattle makes
+APART = {"as-int": "was_int", "as-bool": "was_bool", "bool-byte": "bool_byte_is", "in-range": "ranges", "loop-rewritten": "loop_rewritten", "loop-case": "loop_case"}
 # facts whose names were in lower case: (file below crates/ in which it is declared, name, new spelling)
 FACTS = [("exports/specs/Values.antt", "lies_within", "LiesWithin"), ("name_text/specs/Found.antt", "within", "IsWithin"), ("name_text/proofs/Laws.antt", "inside", "IsInside"),
          ("name_text/proofs/Laws.antt", "lies", "Lies"), ("pairing/proofs/Continued.antt", "with-dest", "WithDest")]
@@ -92,7 +92,7 @@ def collect():
                 if not proof:
                     seen.update(words(line))
     names = {n for n in declared if "-" in n or CAMEL.fullmatch(n)} | (seen - kit)
-    return {n: spelled(n) for n in names if not MADE.search(n) and spelled(n) != n}
+    return {n: spelled(n) for n in names if (n in APART or not MADE.search(n)) and spelled(n) != n}
 
 
 def turned(part, names, skip, proof):

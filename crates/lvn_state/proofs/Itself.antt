@@ -1,6 +1,6 @@
 -- Whether a value's instruction is `x = id x`: only that of an id can be.
-use mathlib.Core.Path.{◌≡◌, refl, sym}
-use mathlib.Core.Bool.{Bool, true, false, not}
+use mathlib.Core.Path.{◌≡◌, refl}
+use mathlib.Core.Bool.{false}
 use mathlib.Core.List.{[], ◌∷◌}
 use types.Run.{OneOf, miss}
 use denote.Enum.Declared.{tag_of}
@@ -20,11 +20,3 @@ not_itself locs x Unique h = refl
 not_itself locs x (Constant c) h = refl
 not_itself locs x (One o a) h = absurd (miss (0 ∷ 1 ∷ 3 ∷ []) 2 tt h)
 not_itself locs x (Two o a b) h = refl
-
-pub not_true : (b : Bool) → not b ≡ true → b ≡ false
-not_true true e = sym e
-not_true false e = refl
-
-pub not_false : (b : Bool) → not b ≡ false → b ≡ true
-not_false true e = refl
-not_false false e = sym e

@@ -5,7 +5,7 @@ use Rattle.arith.specs.Value.{Val, int, bool, pointer}
 use Rattle.arith.specs.Operation.{by_zero}
 use Rattle.record.specs.Record.{nm, Placed, Record, Function, function, plain, wide}
 use Rattle.record.specs.Reader.{Res, got, fault}
-use Rattle.record.specs.Samples.{division, division_rewritten, call, call_rewritten, loop, loop-rewritten, walk, comparison, comparison_rewritten, quotient, quotient_rewritten, join, join_rewritten}
+use Rattle.record.specs.Samples.{division, division_rewritten, call, call_rewritten, loop, loop_rewritten, walk, comparison, comparison_rewritten, quotient, quotient_rewritten, join, join_rewritten}
 use Rattle.arith.specs.Word.{W, least, minus_one}
 use Rattle.record.specs.Typing.{accept}
 use Rattle.machine.specs.Machine.{Store, Answer, value, go_on, halt, Event, at_end, at_ret, at_halt, at_unset, at_division, Place, before, stopped, Run, run}
@@ -87,7 +87,7 @@ jumps_back =
     let es : List Event = event 2 68 0 (int 1 ∷ []) ∷ event 2 68 0 (int 0 ∷ []) ∷ event 5 66 0 (int 0 ∷ []) ∷ [] in
     let end : List (Option Val) → ℕ → Summary = shows (stopped at_ret 1 0) (0 ∷ 0 ∷ []) es (halt ∷ []) in
     (loop, vs, xs, 5, end (some (int 0) ∷ some (int minus_one) ∷ some (int 0) ∷ some (bool false) ∷ []) 9) ∷
-    (loop-rewritten, vs, xs, 5, end (some (int 0) ∷ some (int minus_one) ∷ some (int 0) ∷ some (bool false) ∷ some (int 1) ∷ []) 11) ∷
+    (loop_rewritten, vs, xs, 5, end (some (int 0) ∷ some (int minus_one) ∷ some (int 0) ∷ some (bool false) ∷ some (int 1) ∷ []) 11) ∷
     []
 
 -- an empty block, nop, jmp, load, store, and the end past the last block; the first two blocks of it, before block 3 is begun

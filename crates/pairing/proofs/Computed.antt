@@ -41,8 +41,8 @@ abbrev pub call_case : Case
 call_case = from call (some (int 5) ∷ []) (value (bool true) ∷ go_on ∷ []) 1
 
 -- a loop passed twice, its save counted each time
-abbrev pub loop-case : Case
-loop-case = from loop (some (int 2) ∷ some (int minus_one) ∷ some (int 0) ∷ none ∷ []) (go_on ∷ go_on ∷ []) 4
+abbrev pub loop_case : Case
+loop_case = from loop (some (int 2) ∷ some (int minus_one) ∷ some (int 0) ∷ none ∷ []) (go_on ∷ go_on ∷ []) 4
 
 -- -2^63 by -1, of arguments and of known constants: the run passes on
 abbrev pub quotient_case : Case
@@ -69,14 +69,14 @@ unset_later n =
 
 -- ---- each meets every premise
 pub cases_alike :
-    Instance c5_case × Instance division_case × Instance call_case × Instance loop-case × Instance quotient_case × Instance (unset_later 1) ×
+    Instance c5_case × Instance division_case × Instance call_case × Instance loop_case × Instance quotient_case × Instance (unset_later 1) ×
     Instance join_case × Instance join_unfit × Instance (phi_unset 1)
 unfolding all_of_pairing
 cases_alike = (
   instance c5_case tt,
   instance division_case tt,
   instance call_case tt,
-  instance loop-case tt,
+  instance loop_case tt,
   instance quotient_case tt,
   instance (unset_later 1) tt,
   instance join_case tt,
@@ -101,7 +101,7 @@ abbrev alike_but : (Place → ℕ → Summary) → Place → ℕ → Place → �
 alike_but s p n q m = (s p n, s q m)
 
 pub cases_run :
-    map both_runs (c5_case ∷ division_case ∷ call_case ∷ loop-case ∷ quotient_case ∷ join_case ∷ join_unfit ∷ []) ≡
+    map both_runs (c5_case ∷ division_case ∷ call_case ∷ loop_case ∷ quotient_case ∷ join_case ∷ join_unfit ∷ []) ≡
     alike_but (λ p n. shows p (0 ∷ []) (event 4 68 0 (int 5 ∷ []) ∷ []) [] (some (int 6) ∷ some (int 5) ∷ []) n)
     (stopped at_end 1 0) 4 (stopped at_end 1 0) 5 ∷
     alike_but (λ p n. shows p [] [] [] (some (int 0) ∷ some (int 7) ∷ []) n)
