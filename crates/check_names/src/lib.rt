@@ -1,8 +1,8 @@
-// The check of names: a type, a text's length and the text of each. The names before one are those that stand from a place on, k of them;
-// their texts are the texts that the definition has seen.
+// The check of names: a type, a text's length and the text of each. The texts of the names before one are the texts that the definition
+// has seen.
 #![tactic(auto)]
 
-ghost use Rattle.std.specs.Prelude.{◌≡◌, cond, not, ◌||◌, [], ◌+◌, ◌<◌, ◌≤◌, length, take, drop, eqb};
+ghost use Rattle.std.specs.Prelude.{◌≡◌, cond, not, ◌||◌, [], ◌<◌, ◌≤◌, length};
 ghost use Rattle.record.specs.Reader.{field, text};
 ghost use Rattle.record.specs.Text.{reserved};
 ghost use Rattle.record.specs.Tests.{type_test, text_length_test, text_test};
@@ -13,11 +13,13 @@ ghost use Rattle.record.specs.Decode.{behind, name_from, name_end};
 ghost use Rattle.read_layout.specs.Layout.{texts_from};
 ghost use Rattle.check_names.specs.Marks.{mark};
 
-use read_fields::{Num, byte_or};
-use record::{Limits, Next, Refusal, Test};
+use check_texts::Before;
+use read_fields::{Next, Num, Test, byte_or, fault, field_at, judged};
+use record::{Limits, Refusal};
 
 // ---- a name's type and its text's length
 // A type whose low half is above 3 is refused.
+#[tactic(auto, unfolding(record::specs::Tests::type_test))]
 pub fn type_test(x: u64) -> Test
     ensures { result ≡ type_test x }
 {
@@ -25,86 +27,76 @@ pub fn type_test(x: u64) -> Test
 }
 
 // A length of 0 or over the longest is refused.
+#[tactic(auto, unfolding(record::specs::Tests::text_length_test))]
 pub fn text_length_test(most: u64, n: u64) -> Test
     ensures { result ≡ text_length_test most n }
 {
-    if n < 1 {
-        return Test::Fails(Refusal::Limit);
-    }
-    read_fields::need(n <= most, Refusal::Limit)
+    read_fields::need((1..=most).contains(&n), Refusal::Limit)
 }
 
 // The field of a type.
 pub fn type_field(s: &[u8], at: usize) -> Num
     ensures { res result ≡ field 1 type_test s.now at }
 {
-    let n = read_fields::one_at(s, at);
-    read_fields::tested(n, type_test(read_fields::number(n)), at)
+    let (x, p) = field_at::<1>(s, at)?;
+    judged(type_test(x), x, p, at)
 }
 
 // The field of a text's length, which is at most `most`.
 pub fn text_length_at(s: &[u8], at: usize, most: u64) -> Num
     ensures { res result ≡ field 1 (text_length_test most) s.now at }
 {
-    let n = read_fields::one_at(s, at);
-    read_fields::tested(n, text_length_test(most, read_fields::number(n)), at)
+    let (x, p) = field_at::<1>(s, at)?;
+    judged(text_length_test(most, x), x, p, at)
 }
 
 // ---- a name's text
-// Whether the text at t may stand in a record: reserved texts may where made names may.
-pub fn may_stand(made: bool, s: &[u8], t: usize, n: usize) -> bool
-    requires { (0 < n) × (t + n ≤ length s.now) }
-    ensures { result ≡ (made || not (reserved (take n (drop t s.now)))) }
+// Whether the text may stand in a record: reserved texts may where made names may.
+pub fn may_stand(made: bool, text: &[u8]) -> bool
+    ensures { result ≡ (made || not (reserved text.now)) }
 {
-    if made {
-        return true;
-    }
-    !check_texts::reserved(s, t, n)
+    made || !check_texts::reserved(text)
 }
 
-// The text at t is refused where it is malformed, reserved, or the text of one of the k names from a place on.
-pub fn text_test(lim: Limits, s: &[u8], from: usize, k: u64, t: usize, n: usize) -> Test
-    requires { (0 < n) × (t + n ≤ length s.now) × (behind (name_end s.now) from k ≤ length s.now) }
-    ensures { result ≡ text_test lim.made (texts_from s.now from k) (take n (drop t s.now)) }
+// The text is refused where it is malformed, reserved, or the text of one of the names before.
+pub fn text_test(lim: Limits, s: &[u8], before: Before, text: &[u8]) -> Test
+    requires { behind (name_end s.now) before.from before.count ≤ length s.now }
+    ensures { result ≡ text_test lim.made (texts_from s.now before.from before.count) text.now }
 {
-    if !check_texts::well_formed(s, t, n) {
-        return Test::Fails(Refusal::Text);
-    }
-    if !may_stand(lim.made, s, t, n) {
-        return Test::Fails(Refusal::Text);
-    }
-    read_fields::need(!check_texts::used_in(s, from, k, t, n), Refusal::Text)
+    let stands = check_texts::well_formed(text) && may_stand(lim.made, text);
+    read_fields::need(
+        stands && !check_texts::used_in(s, before, text),
+        Refusal::Text,
+    )
 }
 
 // The field of the text at t: past the end of the bytes, or refused by its test, or the place behind it.
-pub fn text_at(lim: Limits, s: &[u8], from: usize, k: u64, t: usize, n: usize) -> Next
-    requires { (0 < n) × (behind (name_end s.now) from k ≤ t) }
-    ensures { result ≡ verdict (text n (text_test lim.made (texts_from s.now from k)) s.now t) }
+pub fn text_at(lim: Limits, s: &[u8], before: Before, t: usize, n: usize) -> Next
+    requires { (0 < n) × (behind (name_end s.now) before.from before.count ≤ t) }
+    ensures { result ≡ verdict (text n (text_test lim.made (texts_from s.now before.from before.count)) s.now t) }
 {
     if read_fields::left(s, t) < n {
-        return Next::Refused(Refusal::Length, t);
+        return Err(fault(Refusal::Length, t));
     }
-    match text_test(lim, s, from, k, t, n) {
-        Test::Passes => Next::At(t + n),
-        Test::Fails(r) => Next::Refused(r, t),
+    match text_test(lim, s, before, &s[t..t + n]) {
+        Ok(()) => Ok(t + n),
+        Err(k) => Err(fault(k, t)),
     }
 }
 
 // ---- marks, by which a text is known to be new without a search
-// The mark of the text at t.
-pub fn mark_of(s: &[u8], t: usize, n: usize) -> usize
-    requires { t + n ≤ length s.now }
-    ensures { (result ≡ mark 0 (take n (drop t s.now))) × (result < 2048) }
+// How many marks there are.
+const MARKS: usize = 2048;
+
+// The mark of a text.
+pub fn mark_of(text: &[u8]) -> usize
+    ensures { (result ≡ mark 0 text.now) × (result < 2048) }
 {
-    let mut h: u64 = 0;
-    let mut p = t;
-    let mut left = n;
-    while left > 0 {
-        h = (h * 37 + byte_or(s, p)) % 2048;
-        p += 1;
-        left -= 1;
+    let mut h = 0;
+    for b in text {
+        h = (h * 37 + *b as usize) % MARKS;
     }
-    h as usize
+    h
 }
 
 // The mark of the text of the name at p; any mark where the bytes end before the text does.
@@ -119,51 +111,41 @@ pub fn mark_at(s: &[u8], p: usize) -> usize
     if read_fields::left(s, t) < n {
         return 0;
     }
-    mark_of(s, t, n)
+    mark_of(&s[t..t + n])
 }
 
-// How many of the k names before a text are searched for it: none where its mark m is not set.
-pub fn to_search(m: u8, k: u64) -> u64
-    ensures { result ≡ cond (eqb m 0) 0 k }
+// How many of the k names before a text are searched for it: none where its mark is not set.
+pub fn to_search(marked: bool, k: u64) -> u64
+    ensures { result ≡ cond marked k 0 }
 {
-    if m == 0 { 0 } else { k }
+    if marked { k } else { 0 }
 }
 
 // ---- names
-// The name at p, with k names before it from a place on.
-pub fn name_at(lim: Limits, s: &[u8], from: usize, k: u64, p: usize) -> Next
-    requires { behind (name_end s.now) from k ≤ p }
-    ensures { result ≡ verdict (name lim (texts_from s.now from k) s.now p) }
+// The name at p, with these names before it.
+pub fn name_at(lim: Limits, s: &[u8], before: Before, p: usize) -> Next
+    requires { behind (name_end s.now) before.from before.count ≤ p }
+    ensures { result ≡ verdict (name lim (texts_from s.now before.from before.count) s.now p) }
 {
-    match type_field(s, p) {
-        Num::Is(_, q) => match text_length_at(s, q, lim.text) {
-            Num::Is(n, t) => text_at(lim, s, from, k, t, n as usize),
-            Num::No(r, o) => Next::Refused(r, o),
-        },
-        Num::No(r, o) => Next::Refused(r, o),
-    }
+    let (_, q) = type_field(s, p)?;
+    let (n, t) = text_length_at(s, q, lim.text)?;
+    text_at(lim, s, before, t, n as usize)
 }
 
-// `count` names from a place on, one behind the other. seen: 1 at the mark of each text before.
+// `count` names from a place on, one behind the other. seen: which marks the texts before have.
 pub fn names_at(lim: Limits, s: &[u8], at: usize, count: u64) -> Next
     ensures { result ≡ verdict (names lim [] count s.now at) }
 {
-    let mut seen = [0u8; 2048];
+    let mut seen = [false; MARKS];
     let mut p = at;
-    let mut left = count;
-    while left > 0 {
+    for i in 0..count {
         let h = mark_at(s, p);
-        let k = to_search(seen[h], count - left);
-        seen[h] = 1;
-        match name_at(lim, s, at, k, p) {
-            Next::At(next) => {
-                p = next;
-            }
-            Next::Refused(r, o) => {
-                return Next::Refused(r, o);
-            }
-        }
-        left -= 1;
+        let before = Before {
+            from: at,
+            count: to_search(seen[h], i),
+        };
+        seen[h] = true;
+        p = name_at(lim, s, before, p)?;
     }
-    Next::At(p)
+    Ok(p)
 }

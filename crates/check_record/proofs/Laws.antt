@@ -6,20 +6,20 @@ use lib.ListN.{length}
 use borrow.Author.Tests.{lt-ltb, le-ltb}
 use Rattle.record.specs.declared.Limits.{Limits}
 use Rattle.record.specs.declared.Refusal.TheVariants.{Length}
-use Rattle.record.specs.declared.Next.TheVariants.{At, Refused}
+use Rattle.std.specs.Prelude.{Ok, Err}
 use Rattle.record.specs.Record.{Name, Placed, Block, Record, most_blocks, id_bytes}
 use Rattle.record.specs.Reader.{Res, got, fault, Reader, then, give, ◌>>=◌, field, times}
 use Rattle.record.specs.Tests.{at_most}
 use Rattle.record.specs.Read.{block, names, end}
-use Rattle.record.specs.Answer.{verdict}
+use Rattle.record.specs.Answer.{fault_at, verdict}
 use Rattle.record.proofs.Following.{made}
 use Rattle.check_record.specs.Parts.{names_and_blocks}
 
-pub bytes_left : (s : List ℕ) (at : ℕ) → at < length s → Refused Length at ≡ verdict (end s at)
+pub bytes_left : (s : List ℕ) (at : ℕ) → at < length s → Err (fault_at Length at) ≡ verdict (end s at)
 unfolding end
 bytes_left s at h = rw (lt-ltb at (length s) h)
 
-pub no_byte_left : (s : List ℕ) (at : ℕ) → length s ≤ at → At at ≡ verdict (end s at)
+pub no_byte_left : (s : List ℕ) (at : ℕ) → length s ≤ at → Ok at ≡ verdict (end s at)
 unfolding end
 no_byte_left s at h = rw (le-ltb at (length s) h)
 

@@ -9,11 +9,13 @@ ghost use Rattle.record.specs.Answer.{verdict};
 ghost use Rattle.read_fields.specs.Answer.{res};
 ghost use Rattle.check_record.specs.Parts.{names_and_blocks};
 
-use read_fields::Num;
-use record::{Limits, Next, Refusal, Test};
+use check_blocks::Counts;
+use read_fields::{Next, Num, Test, fault, field_at, judged, limited};
+use record::{Limits, Refusal};
 
 // ---- tests
 // As many bytes as follow.
+#[tactic(auto, unfolding(record::specs::Tests::length_test))]
 pub fn length_test(rest: u64, l: u64) -> Test
     ensures { result ≡ length_test rest l }
 {
@@ -21,6 +23,7 @@ pub fn length_test(rest: u64, l: u64) -> Test
 }
 
 // The one version.
+#[tactic(auto, unfolding(record::specs::Tests::version_test))]
 pub fn version_test(v: u64) -> Test
     ensures { result ≡ version_test v }
 {
@@ -39,31 +42,24 @@ pub fn names_test(most: u64, args: u64, n: u64) -> Test
 pub fn length_at(s: &[u8], at: usize) -> Num
     ensures { res result ≡ length_field s.now at }
 {
-    match read_fields::four_at(s, at) {
-        Num::Is(x, p) => read_fields::judged(
-            length_test(read_fields::left(s, 4) as u64, x),
-            x,
-            p,
-            at,
-        ),
-        Num::No(k, o) => Num::No(k, o),
-    }
+    let (x, p) = field_at::<4>(s, at)?;
+    judged(length_test(read_fields::left(s, 4) as u64, x), x, p, at)
 }
 
 // The version.
 pub fn version_at(s: &[u8], at: usize) -> Num
     ensures { res result ≡ field 1 version_test s.now at }
 {
-    let n = read_fields::one_at(s, at);
-    read_fields::tested(n, version_test(read_fields::number(n)), at)
+    let (x, p) = field_at::<1>(s, at)?;
+    judged(version_test(x), x, p, at)
 }
 
 // N, where A is args.
 pub fn name_count_at(s: &[u8], at: usize, most: u64, args: u64) -> Num
     ensures { res result ≡ field 2 (names_test most args) s.now at }
 {
-    let n = read_fields::two_at(s, at);
-    read_fields::tested(n, names_test(most, args, read_fields::number(n)), at)
+    let (x, p) = field_at::<2>(s, at)?;
+    judged(names_test(most, args, x), x, p, at)
 }
 
 // The end: no byte is left over.
@@ -71,50 +67,45 @@ pub fn end_at(s: &[u8], at: usize) -> Next
     ensures { result ≡ verdict (end s.now at) }
 {
     if at < s.len() {
-        return Next::Refused(Refusal::Length, at);
+        return Err(fault(Refusal::Length, at));
     }
-    Next::At(at)
+    Ok(at)
 }
 
 // ---- the record
-// The n names, B and the blocks.
-pub fn names_and_blocks_at(s: &[u8], at: usize, lim: Limits, w: usize, n: u64) -> Next
-    ensures { result ≡ verdict (names_and_blocks lim w n s.now at) }
+// The names, B and the blocks; width: the bytes of an id.
+pub fn names_and_blocks_at(s: &[u8], at: usize, lim: Limits, width: usize, names: u64) -> Next
+    ensures { result ≡ verdict (names_and_blocks lim width names s.now at) }
 {
-    match check_names::names_at(lim, s, at, n) {
-        Next::At(p) => match read_fields::two_limited(s, p, 64) {
-            Num::Is(b, q) => check_blocks::check_blocks(s, q, lim, w, n, b),
-            Num::No(k, o) => Next::Refused(k, o),
+    let p = check_names::names_at(lim, s, at, names)?;
+    let (blocks, q) = limited::<2>(s, p, 64)?;
+    check_blocks::check_blocks(
+        s,
+        q,
+        lim,
+        Counts {
+            width,
+            names,
+            blocks,
         },
-        Next::Refused(k, o) => Next::Refused(k, o),
-    }
+    )
 }
 
 // What stands between L and the end: version, A, N, the names, B, the blocks.
 pub fn contents_at(s: &[u8], at: usize, lim: Limits) -> Next
     ensures { result ≡ verdict (contents lim s.now at) }
 {
-    match version_at(s, at) {
-        Num::Is(v, p) => match read_fields::one_limited(s, p, 16) {
-            Num::Is(a, q) => match name_count_at(s, q, lim.names, a) {
-                Num::Is(n, t) => names_and_blocks_at(s, t, lim, read_layout::id_bytes(v), n),
-                Num::No(k, o) => Next::Refused(k, o),
-            },
-            Num::No(k, o) => Next::Refused(k, o),
-        },
-        Num::No(k, o) => Next::Refused(k, o),
-    }
+    let (version, p) = version_at(s, at)?;
+    let (args, q) = limited::<1>(s, p, 16)?;
+    let (names, t) = name_count_at(s, q, lim.names, args)?;
+    names_and_blocks_at(s, t, lim, read_layout::id_bytes(version), names)
 }
 
 // The whole record with these limits.
 pub fn read_record(s: &[u8], lim: Limits) -> Next
     ensures { result ≡ verdict (read lim s.now 0) }
 {
-    match length_at(s, 0) {
-        Num::Is(_, p) => match contents_at(s, p, lim) {
-            Next::At(q) => end_at(s, q),
-            Next::Refused(k, o) => Next::Refused(k, o),
-        },
-        Num::No(k, o) => Next::Refused(k, o),
-    }
+    let (_, p) = length_at(s, 0)?;
+    let q = contents_at(s, p, lim)?;
+    end_at(s, q)
 }

@@ -2,13 +2,14 @@
 use Prim.Native.Nat.{ℕ, zero, suc, ◌+◌, ◌-◌, ◌*◌, ◌<◌, ◌≤◌}
 use mathlib.Core.Path.{◌≡◌, refl, sym, ap, ◌∙◌, subst}
 use mathlib.Core.Logic.{◌≢◌}
-use mathlib.Core.List.{List, [], ◌∷◌, map}
+use mathlib.Core.List.{List, ◌∷◌, map}
 use mathlib.Core.Option.{Option, none, some}
-use mathlib.Core.Bool.{Bool, true, false, cond, not, ◌&&◌, and_assoc, and-true, and-false}
+use mathlib.Core.Bool.{Bool, true, false, cond, not, ◌&&◌, and_assoc, and-false}
 use native.Mathlib.Omega.{arith}
 use native.Mathlib.Decide.{dec_lt}
-use lib.ListN.{get_or, drop}
-use lib.Dec.{eqb}
+use lib.ListN.{get_or, drop, replicate}
+use denote.Ref.{Bor}
+use lib.Dec.{eqb, eqb-suc-zero, eqb-zero-suc, eqb-suc-suc}
 use borrow.Author.Tests.{ne_eqb, eq-eqb}
 use Rattle.arith.specs.Value.{tint, tbool, is_pointer}
 use Rattle.record.specs.declared.NameIx.{NameIx}
@@ -25,6 +26,7 @@ use Rattle.record.proofs.Decode.{item_at, item_past, behind_two}
 use Rattle.record.proofs.Form.{row_beyond, all_below_at}
 use Rattle.record.proofs.Rows.{one_more}
 use Rattle.record.proofs.Following.{ends_below, row_found}
+use Rattle.check_rules.specs.declared.Operands.{Operands}
 use Rattle.check_rules.specs.declared.Rule.{Rule}
 use Rattle.check_rules.specs.Rules.{rule, code_rule, args_from, Kept}
 
@@ -36,9 +38,16 @@ pub rule_row :
 unfolding code_rule
 rule_row n m e c x rest = row_found free n m e c x rules rest
 
-pub rule_none : (c : ℕ) → 72 ≤ c → free ≡ code_rule c
+-- the codes that every rule but free leaves out
+pub rule_free : (c : ℕ) → 14 < c → (20 < c → 39 < c) → c ≢ 65 → (69 < c → 71 < c) → free ≡ code_rule c
 unfolding code_rule
-rule_none c h = sym (row_beyond free rules 71 c refl h)
+rule_free c h g k l = go (dec_lt c 21) (dec_lt c 65) (dec_lt c 70)
+  where
+    go : Dec (c < 21) → Dec (c < 65) → Dec (c < 70) → free ≡ code_rule c
+    go (yes a) _ _ = rule_row 7 15 20 c _ _ refl refl (omega arith) (omega arith)
+    go (no a) (yes b) _ = rule_row 16 40 64 c _ _ refl refl (omega arith) (omega arith)
+    go (no a) (no b) (yes d) = rule_row 18 66 69 c _ _ refl refl (omega arith) (omega arith)
+    go (no a) (no b) (no d) = sym (row_beyond free rules 71 c refl (omega arith))
 
 -- ---- types
 -- x: the index that stands at a place
@@ -78,34 +87,27 @@ module _ (sh : Shape) (s : List ℕ) (at id code : ℕ) where
   unfolding operands_from args_from
   args_alone d l = rw (d, l)
 
--- ---- arguments of given types
-module _ (f : NameIx → ℕ) (one : ℕ → NameIx) (next : ℕ → ℕ) (a : ℕ) where
-  one_arg : (n p : ℕ) → same_bytes (map f (items one next p n)) (a ∷ []) ≡ (eqb n 1 && eqb (f (get_or (items one next p n) 0 (nm 0))) a)
-  unfolding items same_bytes
-  one_arg zero p = refl
-  one_arg (suc zero) p = and-true (eqb (f (one p)) a)
-  one_arg (suc (suc n)) p = rw (ne_eqb (suc (suc n)) 1 (λ e. omega arith)) (and-false (eqb (f (one p)) a))
+-- ---- arguments of one type
+module _ (f : NameIx → ℕ) (one : ℕ → NameIx) (next : ℕ → ℕ) (t : ℕ) where
+  -- n of them and no more
+  each_same :
+      (c n p : ℕ) →
+      same_bytes (map f (items one next p c)) (replicate n t) ≡ (eqb c n && each_is t (map f (items one next p n)))
+  unfolding items same_bytes each_is
+  each_same zero zero p = refl
+  each_same zero (suc n) p = rw (eqb-zero-suc n)
+  each_same (suc c) zero p = rw (eqb-suc-zero c)
+  each_same (suc c) (suc n) p =
+      rw (eqb-suc-suc c n)
+      (ap (λ (b : Bool). eqb (f (one p)) t && b) (each_same c n (next p))
+      ∙ swapped (eqb (f (one p)) t) (eqb c n) (each_is t (map f (items one next (next p) n))))
+    where
+      swapped : (a b d : Bool) → (a && (b && d)) ≡ (b && (a && d))
+      swapped true b d = refl
+      swapped false b d = sym (and-false b)
 
-  two_args :
-      (n p : ℕ) →
-      same_bytes (map f (items one next p n)) (a ∷ a ∷ [])
-      ≡ (eqb n 2 && (eqb (f (get_or (items one next p n) 0 (nm 0))) a && eqb (f (get_or (items one next p n) 1 (nm 0))) a))
-  unfolding items same_bytes
-  two_args zero p = refl
-  two_args (suc zero) p = and-false (eqb (f (one p)) a)
-  two_args (suc (suc zero)) p = ap (λ (b : Bool). eqb (f (one p)) a && b) (and-true (eqb (f (one (next p))) a))
-  two_args (suc (suc (suc n))) p =
-      rw (ne_eqb (suc (suc (suc n))) 2 (λ e. omega arith))
-      (ap (λ (b : Bool). eqb (f (one p)) a && b) (and-false (eqb (f (one (next p))) a)) ∙ and-false (eqb (f (one p)) a))
-
--- ---- arguments of one type, of which some are left
-module _ (f : NameIx → ℕ) (one : ℕ → NameIx) (next : ℕ → ℕ) (t p left : ℕ) where
-  pub each_done : left ≡ 0 → true ≡ each_is t (map f (items one next p left))
-  unfolding items each_is
-  each_done z = sym (ap (λ (n : ℕ). each_is t (map f (items one next p n))) z)
-
-  -- x: the type of the first of them
-  module _ (x : ℕ) (e : x ≡ f (one p)) (h : 0 < left) where
+  -- the first of those left, where some are left; x: its type
+  module _ (p left x : ℕ) (e : x ≡ f (one p)) (h : 0 < left) where
     first_is : each_is t (map f (items one next p left)) ≡ (eqb x t && each_is t (map f (items one next (next p) (left - 1))))
     unfolding items each_is
     first_is = rw e (ap (λ (n : ℕ). each_is t (map f (items one next p n))) (one_more left h))
@@ -116,8 +118,21 @@ module _ (f : NameIx → ℕ) (one : ℕ → NameIx) (next : ℕ → ℕ) (t p l
     pub each_went : x ≡ t → each_is t (map f (items one next (next p) (left - 1))) ≡ each_is t (map f (items one next p left))
     each_went g = rw (first_is, eq-eqb x t g)
 
+  pub each_done : (p left : ℕ) → left ≡ 0 → true ≡ each_is t (map f (items one next p left))
+  unfolding items each_is
+  each_done p left z = sym (ap (λ (n : ℕ). each_is t (map f (items one next p n))) z)
+
 -- ---- the rules; t: the type of dest, x and y: those of the arguments
-module _ (types s : List ℕ) (at t x y : ℕ) (r : Bool) where
+module _ (o : Operands) (t x y : ℕ) (r : Bool) where
+  abbrev s : List ℕ
+  s = o.bytes.now
+
+  abbrev types : List ℕ
+  types = o.types.now
+
+  abbrev at : ℕ
+  at = o.at
+
   abbrev Dest : Type 0
   Dest = t ≡ type_in types (index_from s at)
 
@@ -127,63 +142,55 @@ module _ (types s : List ℕ) (at t x y : ℕ) (r : Bool) where
   abbrev Second : ℕ → Type 0
   Second p = y ≡ type_in types (get_or (args_from s p) 1 (nm 0))
 
-  pub kept_fits : (kind : ℕ) → kind ≡ num_at s (at + 2) 1 → Dest → r ≡ literal_fits kind t → Kept r fits_dest true true types s at
+  pub kept_fits : (kind : ℕ) → kind ≡ num_at s (at + 2) 1 → Dest → r ≡ literal_fits kind t → Kept r fits_dest true true o
   unfolding obeys
   kept_fits kind ek et h sh id code d l = rw (dest_is sh s at id code d, kind_is sh s at id code d l, ← ek, ← et) h
 
-  pub kept_copies : Dest → First (at + 2) → r ≡ eqb t x → Kept r copies true false types s at
+  pub kept_copies : Dest → First (at + 2) → r ≡ eqb t x → Kept r copies true false o
   unfolding obeys
   kept_copies et ex h sh id code d l = rw (dest_is sh s at id code d, args_valued sh s at id code d l, ← et, ← ex) h
 
   pub kept_shifts :
       Dest → First (at + 2) → Second (at + 2) → r ≡ (is_pointer x && (eqb y tint && eqb t x)) →
-      Kept r shifts true false types s at
+      Kept r shifts true false o
   unfolding obeys
   kept_shifts et ex ey h sh id code d l = rw (dest_is sh s at id code d, args_valued sh s at id code d l, ← et, ← ex, ← ey) h
 
-  pub kept_allocates : Dest → First (at + 2) → r ≡ (eqb x tint && is_pointer t) → Kept r allocates true false types s at
+  pub kept_allocates : Dest → First (at + 2) → r ≡ (eqb x tint && is_pointer t) → Kept r allocates true false o
   unfolding obeys
   kept_allocates et ex h sh id code d l = rw (dest_is sh s at id code d, args_valued sh s at id code d l, ← et, ← ex) h
 
-  pub kept_loads : Dest → First (at + 2) → r ≡ points_to x t → Kept r loads true false types s at
+  pub kept_loads : Dest → First (at + 2) → r ≡ points_to x t → Kept r loads true false o
   unfolding obeys
   kept_loads et ex h sh id code d l = rw (dest_is sh s at id code d, args_valued sh s at id code d l, ← et, ← ex) h
 
-  pub kept_stores : First at → Second at → r ≡ points_to x y → Kept r stores false false types s at
+  pub kept_stores : First at → Second at → r ≡ points_to x y → Kept r stores false false o
   unfolding obeys
   kept_stores ex ey h sh id code d l = rw (args_alone sh s at id code d l, ← ex, ← ey) h
 
-  pub kept_frees : First at → r ≡ is_pointer x → Kept r frees false false types s at
+  pub kept_frees : First at → r ≡ is_pointer x → Kept r frees false false o
   unfolding obeys
   kept_frees ex h sh id code d l = rw (args_alone sh s at id code d l, ← ex) h
 
-  pub kept_branches : First at → r ≡ eqb x tbool → Kept r branches false false types s at
+  pub kept_branches : First at → r ≡ eqb x tbool → Kept r branches false false o
   unfolding obeys
   kept_branches ex h sh id code d l = rw (args_alone sh s at id code d l, ← ex) h
 
   pub kept_joins :
       (n : ℕ) → n ≡ num_at s (at + 2) 1 → Dest → r ≡ each_is t (map (type_in types) (items (index_from s) two_on (at + 2 + 1) n)) →
-      Kept r joins true false types s at
+      Kept r joins true false o
   unfolding obeys args_from
   kept_joins n en et h sh id code d l = rw (dest_is sh s at id code d, args_valued sh s at id code d l, ← et, ← en) h
 
-  -- n: the count of the arguments
-  module _ (n a b : ℕ) (en : n ≡ num_at s (at + 2) 1) where
-    pub kept_one : Dest → First (at + 2) → r ≡ (eqb n 1 && (eqb x a && eqb t b)) → Kept r (takes (a ∷ []) b) true false types s at
-    unfolding obeys args_from
-    kept_one et ex h sh id code d l =
-        let one = one_arg (type_in types) (index_from s) two_on a (num_at s (at + 2) 1) (at + 2 + 1) in
-        rw (dest_is sh s at id code d, args_valued sh s at id code d l, one, ← et, ← ex, ← en, and_assoc (eqb n 1) (eqb x a) (eqb t b)) h
-
-    pub kept_two :
-        Dest → First (at + 2) → Second (at + 2) → r ≡ (eqb n 2 && (eqb x a && (eqb y a && eqb t b))) →
-        Kept r (takes (a ∷ a ∷ []) b) true false types s at
-    unfolding obeys args_from
-    kept_two et ex ey h sh id code d l =
-        let two = two_args (type_in types) (index_from s) two_on a (num_at s (at + 2) 1) (at + 2 + 1) in
-        let grouped = and_assoc (eqb n 2) (eqb x a && eqb y a) (eqb t b) in
-        let inner = and_assoc (eqb x a) (eqb y a) (eqb t b) in
-        rw (dest_is sh s at id code d, args_valued sh s at id code d l, two, ← et, ← ex, ← ey, ← en, grouped, inner) h
+  -- c: the count of the arguments
+  pub kept_takes :
+      (n a d c : ℕ) (each : Bool) →
+      c ≡ num_at s (at + 2) 1 → Dest → each ≡ each_is a (map (type_in types) (items (index_from s) two_on (at + 2 + 1) n)) →
+      r ≡ (eqb c n && (each && eqb t d)) → Kept r (takes (replicate n a) d) true false o
+  unfolding obeys args_from
+  kept_takes n a d c each ec et ee h sh id code i l =
+      let same = each_same (type_in types) (index_from s) two_on a (num_at s (at + 2) 1) n (at + 2 + 1) in
+      rw (dest_is sh s at id code i, args_valued sh s at id code i l, same, ← et, ← ec, ← ee, and_assoc (eqb c n) each (eqb t d)) h
 
 -- ---- a rule and the shape of its code
 -- whether a code of this rule has a dest and a literal, where that matters
@@ -223,29 +230,29 @@ rule_told c = go (dec_lt c 72)
 
 -- c: the code of the instruction at a place; found, the same as U: the rule that the code found for it
 module _
-    (types s : List ℕ) (w at c : ℕ) (r : Bool) (ec : c ≡ num_at s (at + w) 1)
+    (s types : Bor (List ℕ)) (w at c : ℕ) (r : Bool) (ec : c ≡ num_at s.now (at + w) 1)
     (found U : Rule) (ef : rule found ≡ code_rule c) (same : found ≡ U) where
   asked : rule U ≡ code_rule c
   asked = ap rule (sym same) ∙ ef
 
   by_code :
-      obeys (rule U) (type_in types) (operands_from (shape_of c) s (at + w + 1) (num_at s at w) c)
-      ≡ well_typed (type_in types) (instr_from w s at)
+      obeys (rule U) (type_in types.now) (operands_from (shape_of c) s.now (at + w + 1) (num_at s.now at w) c)
+      ≡ well_typed (type_in types.now) (instr_from w s.now at)
   unfolding well_typed code_rule instr_from operands_from
   by_code =
-      (λ i. obeys (asked i) (type_in types) (operands_from (shape_of c) s (at + w + 1) (num_at s at w) c))
-      ∙ ap (λ (n : ℕ). obeys (code_rule n) (type_in types) (operands_from (shape_of n) s (at + w + 1) (num_at s at w) n)) ec
+      (λ i. obeys (asked i) (type_in types.now) (operands_from (shape_of c) s.now (at + w + 1) (num_at s.now at w) c))
+      ∙ ap (λ (n : ℕ). obeys (code_rule n) (type_in types.now) (operands_from (shape_of n) s.now (at + w + 1) (num_at s.now at w) n)) ec
 
   pub typed_kept :
-      (dest literal : Bool) → parts (rule U) ≡ some (dest, literal) → Kept r (rule U) dest literal types s (at + w + 1) →
-      r ≡ well_typed (type_in types) (instr_from w s at)
+      (dest literal : Bool) → parts (rule U) ≡ some (dest, literal) → Kept r (rule U) dest literal (record { bytes = s; types = types; at = at + w + 1 }) →
+      r ≡ well_typed (type_in types.now) (instr_from w s.now at)
   typed_kept dest literal p k =
       let told : (agrees dest (shape_of c).dest && agrees literal (shape_of c).literal) ≡ true =
       ap (λ (o : Option (Bool × Bool)). as_told o (shape_of c)) (sym (ap parts (sym asked) ∙ p)) ∙ rule_told c in
       let d = agrees_eq dest (shape_of c).dest (and_left _ _ told) in
       let l = agrees_eq literal (shape_of c).literal (and_right (agrees dest (shape_of c).dest) _ told) in
-      k (shape_of c) (num_at s at w) c d l ∙ by_code
+      k (shape_of c) (num_at s.now at w) c d l ∙ by_code
 
-  pub typed_free : rule U ≡ free → true ≡ well_typed (type_in types) (instr_from w s at)
+  pub typed_free : rule U ≡ free → true ≡ well_typed (type_in types.now) (instr_from w s.now at)
   unfolding obeys
-  typed_free e = sym (ap (λ R. obeys R (type_in types) (operands_from (shape_of c) s (at + w + 1) (num_at s at w) c)) e) ∙ by_code
+  typed_free e = sym (ap (λ R. obeys R (type_in types.now) (operands_from (shape_of c) s.now (at + w + 1) (num_at s.now at w) c)) e) ∙ by_code

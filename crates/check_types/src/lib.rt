@@ -2,57 +2,57 @@
 // names. All reads are total, 0 past the end, so the pass asks nothing of the bytes.
 #![tactic(auto)]
 
-ghost use Rattle.std.specs.Prelude.{◌≡◌, ℕ, ◌+◌, ◌*◌, ◌<◌, ◌≤◌};
-ghost use Rattle.record.specs.declared.Next.TheVariants.{At};
+ghost use Rattle.std.specs.Prelude.{◌≡◌, ◌+◌, ◌*◌, ◌<◌, ◌≤◌, IfOk};
 ghost use Rattle.read_fields.specs.Places.{places};
 ghost use Rattle.read_layout.specs.Bounds.{widest_id, instr_reach, block_reach};
 ghost use Rattle.check_types.specs.Passes.{body_verdict, block_verdict, blocks_verdict};
 
-use record::{Next, Refusal};
+use read_fields::{Next, fault};
+use record::Refusal;
 
-// The n instructions from a place on: the place behind them, or the first that breaks its rule.
-pub fn typed_body(s: &[u8], types: &[u8], w: usize, n: usize, at: usize) -> Next
-    requires { (w ≤ widest_id) × (at + instr_reach * n < places) }
-    ensures { (result ≡ body_verdict w types.now s.now at n) × ((q : ℕ) → result ≡ At q → q ≤ at + instr_reach * n) }
-{
-    let mut p = at;
-    let mut left = n;
-    while left > 0 {
-        if !check_rules::typed_at(s, types, w, p) {
-            return Next::Refused(Refusal::Types, p);
-        }
-        p = read_layout::instr_end(s, w, p);
-        left -= 1;
-    }
-    Next::At(p)
+// The bytes of a record, the type byte of each name, and the bytes of an id.
+#[derive(Clone, Copy)]
+pub struct Typed<'a> {
+    pub bytes: &'a [u8],
+    pub types: &'a [u8],
+    pub width: usize,
+    ghost narrow: { width ≤ widest_id },
 }
 
-// The block at a place.
-pub fn typed_block(s: &[u8], types: &[u8], w: usize, at: usize) -> Next
-    requires { (w ≤ widest_id) × (at + block_reach < places) }
-    ensures { (result ≡ block_verdict w types.now s.now at) × ((q : ℕ) → result ≡ At q → q ≤ at + block_reach) }
-{
-    let n = read_fields::be16(s, at) as usize;
-    typed_body(s, types, w, n, at + 2 + 2)
-}
-
-// The n blocks from a place on.
-pub fn typed_blocks(s: &[u8], types: &[u8], w: usize, n: usize, at: usize) -> Next
-    requires { (w ≤ widest_id) × (at + block_reach * n < places) }
-    ensures { result ≡ blocks_verdict w types.now s.now at n }
-{
-    let mut p = at;
-    let mut left = n;
-    while left > 0 {
-        match typed_block(s, types, w, p) {
-            Next::At(next) => {
-                p = next;
+impl<'a> Typed<'a> {
+    // The n instructions from a place on: the place behind them, or the first that breaks its rule.
+    pub fn body_at(&self, n: usize, at: usize) -> Next
+        requires { at + instr_reach * n < places }
+        ensures { (result ≡ body_verdict self.now.width self.now.types.now self.now.bytes.now at n) × IfOk result (λ q. q ≤ at + instr_reach * n) }
+    {
+        let mut p = at;
+        for _ in 0..n {
+            if !check_rules::typed_at(self.bytes, self.types, self.width, p) {
+                return Err(fault(Refusal::Types, p));
             }
-            Next::Refused(k, o) => {
-                return Next::Refused(k, o);
-            }
+            p = read_layout::instr_end(self.bytes, self.width, p);
         }
-        left -= 1;
+        Ok(p)
     }
-    Next::At(p)
+
+    // The block at a place.
+    pub fn block_at(&self, at: usize) -> Next
+        requires { at + block_reach < places }
+        ensures { (result ≡ block_verdict self.now.width self.now.types.now self.now.bytes.now at) × IfOk result (λ q. q ≤ at + block_reach) }
+    {
+        let n = read_fields::be::<2>(self.bytes, at) as usize;
+        self.body_at(n, at + 2 + 2)
+    }
+
+    // The n blocks from a place on.
+    pub fn blocks_at(&self, n: usize, at: usize) -> Next
+        requires { at + block_reach * n < places }
+        ensures { result ≡ blocks_verdict self.now.width self.now.types.now self.now.bytes.now at n }
+    {
+        let mut p = at;
+        for _ in 0..n {
+            p = self.block_at(p)?;
+        }
+        Ok(p)
+    }
 }

@@ -8,16 +8,14 @@ use lib.ListN.{length, get_or, drop, replicate, length-replicate}
 use lib.Seq.{sets, sets-eq, get_or-drop}
 use Rattle.arith.proofs.Clash.{clash}
 use Rattle.record.specs.declared.NameIx.{NameIx}
-use Rattle.record.specs.declared.Refusal.{Refusal}
 use Rattle.record.specs.declared.Refusal.TheVariants.{Types}
-use Rattle.record.specs.declared.Next.{Next}
-use Rattle.record.specs.declared.Next.TheVariants as next
-use Rattle.record.specs.declared.Checked.TheVariants.{Refused}
+use Rattle.std.specs.Prelude.{⊤, Result, Ok, Err}
+use Rattle.record.specs.declared.Fault.{Fault}
 use Rattle.record.specs.Record.{Placed, Block, Record, type_in, function, plain, limits}
 use Rattle.record.specs.Reader.{Res, got, fault, refuse, then}
 use Rattle.record.specs.Read.{read}
 use Rattle.record.specs.Typing.{well_typed, body_types, block_types, accept}
-use Rattle.record.specs.Answer.{verdict, checked_as, checked}
+use Rattle.record.specs.Answer.{fault_at, verdict, checked_as, checked}
 use Rattle.record.specs.Again.{types_in}
 use Rattle.record.specs.Decode.{name_from, name_end, names_count, blocks_end, record_from}
 use Rattle.record.proofs.Tests.{names_limit}
@@ -27,7 +25,7 @@ use Rattle.read_layout.specs.declared.Layout.{Layout}
 use Rattle.read_layout.specs.Layout.{types_from, layout_of}
 use Rattle.read_layout.proofs.Tables.{types_are, length_types}
 use Rattle.check_types.specs.Passes.{blocks_verdict}
-use Rattle.checker.specs.Pass.{typed_verdict, as_checked}
+use Rattle.checker.specs.Pass.{typed_verdict}
 
 -- ---- the table
 -- zeros behind a list change no entry, past the end it is 0
@@ -55,7 +53,7 @@ table_types m ts h x =
 
 -- ---- the second pass; l: what the head says
 pub typed_is :
-    (s table : List ℕ) (l : Layout) (r : Next) →
+    (s table : List ℕ) (l : Layout) (r : Result ℕ Fault) →
     l ≡ layout_of s →
     table ≡ sets (zeros 256) 0 (types_from s 8 (names_count s)) →
     r ≡ blocks_verdict l.width table s (l.end + 2) l.blocks →
@@ -78,6 +76,11 @@ unfolding record_from
 names_length s = length_items (name_from s) (name_end s) (names_count s) 8
 
 -- ---- the answer
+-- the place forgotten
+abbrev as_checked : Result ℕ Fault → Result ⊤ Fault
+as_checked (Ok p) = Ok tt
+as_checked (Err f) = Err f
+
 -- it does not depend on what is given at the end, nor on the place
 module _ {A B : Type 0} (t : NameIx → ℕ) where
   same_refuse :
@@ -101,25 +104,25 @@ module _ {A B : Type 0} (t : NameIx → ℕ) where
   same_blocks (b ∷ bs) r q h = same_body b.body (block_types t bs r) (block_types t bs q) (same_blocks bs r q h)
 
 -- a fault of reading is the answer
-pub checked_refused : (s : List ℕ) (k : Refusal) (o : ℕ) → verdict (read limits s 0) ≡ next.Refused k o → Refused k o ≡ checked s
+pub checked_refused : (s : List ℕ) (f : Fault) → verdict (read limits s 0) ≡ Err f → Err f ≡ checked s
 unfolding checked accept
-checked_refused s k o h = go (read limits s 0) h
+checked_refused s f h = go (read limits s 0) h
   where
     go :
-        (v : Res (Record Placed)) → verdict v ≡ next.Refused k o →
-        Refused k o ≡ checked_as (then v (λ r p. block_types (type_in (function (plain r)).types) r.blocks (got r p)))
+        (v : Res (Record Placed)) → verdict v ≡ Err f →
+        Err f ≡ checked_as (then v (λ r p. block_types (type_in (function (plain r)).types) r.blocks (got r p)))
     go (got r p) h = clash (cc)
-    go (fault a p) h = cc
+    go (fault a p) h = let e : fault_at a p ≡ f = cc in ap Err (sym e)
 
 -- otherwise the second pass answers; v: its verdict
-pub checked_typed :
-    (s : List ℕ) (p : ℕ) (v : Next) → verdict (read limits s 0) ≡ next.At p → (names_count s ≤ 256 → v ≡ typed_verdict s) →
+checked_typed :
+    (s : List ℕ) (p : ℕ) (v : Result ℕ Fault) → verdict (read limits s 0) ≡ Ok p → (names_count s ≤ 256 → v ≡ typed_verdict s) →
     as_checked v ≡ checked s
 unfolding checked accept typed_verdict
 checked_typed s p v h e = go (read limits s 0) refl h
   where
     go :
-        (z : Res (Record Placed)) → read limits s 0 ≡ z → verdict z ≡ next.At p →
+        (z : Res (Record Placed)) → read limits s 0 ≡ z → verdict z ≡ Ok p →
         as_checked v ≡ checked_as (then z (λ r p. block_types (type_in (function (plain r)).types) r.blocks (got r p)))
     go (got r q) k h =
         let d = (read_decodes limits s).told r q k in
@@ -130,3 +133,10 @@ checked_typed s p v h e = go (read limits s 0) refl h
         ∙ sym (same_blocks t (record_from s).blocks (got r q) (got tt (blocks_end s)) refl)
         ∙ sym (ap (λ (x : Record Placed). checked_as (block_types (type_in (function (plain x)).types) x.blocks (got r q))) d.0)
     go (fault a o) k h = clash (cc)
+
+module _ (s : List ℕ) (p : ℕ) (v : Result ℕ Fault) (h : verdict (read limits s 0) ≡ Ok p) (e : names_count s ≤ 256 → v ≡ typed_verdict s) where
+  pub typed_refused : (f : Fault) → v ≡ Err f → Err f ≡ checked s
+  typed_refused f g = ap as_checked (sym g) ∙ checked_typed s p v h e
+
+  pub typed_accepted : (q : ℕ) → v ≡ Ok q → Ok tt ≡ checked s
+  typed_accepted q g = ap as_checked (sym g) ∙ checked_typed s p v h e

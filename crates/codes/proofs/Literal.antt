@@ -1,15 +1,13 @@
 -- Literals by kind and bits.
 use Prim.Native.Nat.{ℕ, ◌<◌, ◌≤◌}
-use mathlib.Core.Path.{◌≡◌, refl, sym, ap, ◌∙◌}
-use mathlib.Core.Bool.{Bool, true, false, cond, not, ◌||◌, ◌&&◌}
+use mathlib.Core.Path.{◌≡◌, refl, sym}
+use mathlib.Core.Bool.{Bool, true, false, cond, ◌||◌, ◌&&◌}
 use native.Mathlib.Omega.{arith}
-use lib.Dec.{T, eqb, ltb, leb}
-use lib.Ieee.{Float, nan, inf, fin, binary64, to_bits, is_nan, ne}
-use lib.Ieee.Compare.{differs_from_itself, nan_differs}
-use mir.Val.{bool_byte}
+use lib.Dec.{eqb, ltb, leb}
+use lib.Ieee.{Float, nan, inf, fin, binary64, to_bits, is_nan}
 use borrow.Author.Tests.{eqb-true, eqb-false, ltb-true, leb-true}
 use Rattle.arith.proofs.Clash.{clash}
-use Rattle.record.specs.declared.Test.TheVariants.{Passes}
+use Rattle.std.specs.Prelude.{Ok}
 use Rattle.record.specs.Record.{Lit}
 use Rattle.record.specs.Tests.{literal_test}
 use Rattle.record.specs.Good.{LitOk}
@@ -25,11 +23,7 @@ bool_by x h false e = let n : x ≡ 1 → ⊥ = eqb-false x 1 e in omega arith
 
 pub bool_bits : (k x : ℕ) → k ≡ 1 → LitOk (record { kind = k; bits = x }) → cond (eqb x 1) 1 0 ≡ x
 unfolding literal_test
-bool_bits k x e h = let t : literal_test 1 x ≡ Passes = rw e at h.bits in bool_by x (at_most_le 1 x t) (eqb x 1) refl
-
-pub bool_byte_is : (b : Bool) → bool_byte b ≡ cond b 1 0
-bool_byte_is true = refl
-bool_byte_is false = refl
+bool_bits k x e h = let t : literal_test 1 x ≡ Ok tt = rw e at h.bits in bool_by x (at_most_le 1 x t) (eqb x 1) refl
 
 -- ---- a char
 char_by : (x : ℕ) (b : Bool) → ltb x 0xD800 ≡ b → (b || (leb 0xE000 x && leb x 0x10FFFF)) ≡ true → x ≤ 0x10FFFF
@@ -37,18 +31,14 @@ char_by x true e s = let h : x < 0xD800 = ltb-true x 0xD800 e in omega arith
 char_by x false e s = leb-true x 0x10FFFF (and_right (leb 0xE000 x) (leb x 0x10FFFF) s)
 
 pub char_most : (k x : ℕ) → k ≡ 3 → LitOk (record { kind = k; bits = x }) → x ≤ 0x10FFFF
-char_most k x e h = let t : literal_test 3 x ≡ Passes = rw e at h.bits in char_by x (ltb x 0xD800) refl (literal_scalar x t)
+char_most k x e h = let t : literal_test 3 x ≡ Ok tt = rw e at h.bits in char_by x (ltb x 0xD800) refl (literal_scalar x t)
 
 pub kind_most : {k x : ℕ} → LitOk (record { kind = k; bits = x }) → k ≤ 3
 kind_most {k} h = at_most_le 3 k h.kind
 
 -- ---- a float
-pub nan_bits : (x : Float) → ne x x ≡ true → 0x7FF8_0000_0000_0000 ≡ to_bits binary64 x
-unfolding to_bits
-nan_bits x h = sym (ap (to_bits binary64) (differs_from_itself x (rw h tt)))
-
-pub no_nan : (x : Float) → ne x x ≡ false → T (not (is_nan x))
-unfolding is_nan
-no_nan nan h = absurd (let q : ◌≡◌ {A = Bool} true false = sym nan_differs ∙ h in clash (cc))
-no_nan (inf s) h = tt
-no_nan (fin s m e) h = tt
+pub nan_bits : (x : Float) → is_nan x ≡ true → 0x7FF8_0000_0000_0000 ≡ to_bits binary64 x
+unfolding is_nan to_bits
+nan_bits nan h = refl
+nan_bits (inf s) h = clash (cc)
+nan_bits (fin s m e) h = clash (cc)

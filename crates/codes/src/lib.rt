@@ -1,7 +1,7 @@
 // The codes of operations, and the kinds and bits of literals.
 #![tactic(auto)]
 
-ghost use Rattle.std.specs.Prelude.{◌≡◌, ◌≤◌};
+ghost use Rattle.std.specs.Prelude.{◌≡◌};
 ghost use Rattle.std.specs.Float.{binary64};
 ghost use Rattle.std.specs.Float.Ieee.{to_bits};
 ghost use Rattle.arith.specs.Code.{code1, code2};
@@ -13,7 +13,8 @@ ghost use Rattle.codes.specs.Op.{op_of};
 use arith::{One, Two};
 use record::{Literal, Op};
 
-// ---- the code of an operation
+// ---- the code of an operation, by functions: a `From` would stand in a crate below, where the type does
+#[tactic(auto, unfolding(arith::specs::Code::code1))]
 pub fn code1(o: One) -> u8
     ensures { result ≡ code1 o }
 {
@@ -23,6 +24,7 @@ pub fn code1(o: One) -> u8
     }
 }
 
+#[tactic(auto, unfolding(arith::specs::Code::code2))]
 pub fn code2(o: Two) -> u8
     ensures { result ≡ code2 o }
 {
@@ -42,6 +44,7 @@ pub fn code2(o: Two) -> u8
     }
 }
 
+#[tactic(auto, unfolding(record::specs::View::code_of))]
 pub fn code_of(op: Op) -> u8
     ensures { result ≡ code_of op }
 {
@@ -59,53 +62,28 @@ pub fn code_of(op: Op) -> u8
 }
 
 // ---- the operation of a code
-// add, sub, mul and div
-fn sum_op(code: u8) -> Op
-    requires { (1 ≤ code) × (code ≤ 4) }
+// All codes from 64 on but those of jmp, br, ret and nop are effects that ask the world.
+#[tactic(auto, using(crate::proofs::Op::new_op, crate::proofs::Op::effect_op), unfolding(crate::specs::Op::op_of, arith::specs::Opened::all_of_arith))]
+pub fn op_of(code: u8) -> Op
     ensures { result ≡ op_of code }
 {
     match code {
+        0 => Op::Const,
         1 => Op::Two(Two::Add),
         2 => Op::Two(Two::Sub),
         3 => Op::Two(Two::Mul),
-        _ => Op::Two(Two::Div),
-    }
-}
-
-// eq, lt, gt, le and ge
-fn compare_op(code: u8) -> Op
-    requires { (5 ≤ code) × (code ≤ 9) }
-    ensures { result ≡ op_of code }
-{
-    match code {
+        4 => Op::Two(Two::Div),
         5 => Op::Two(Two::Eq),
         6 => Op::Two(Two::Lt),
         7 => Op::Two(Two::Gt),
         8 => Op::Two(Two::Le),
-        _ => Op::Two(Two::Ge),
-    }
-}
-
-// not, and, or, id and ptradd
-fn other_op(code: u8) -> Op
-    requires { (10 ≤ code) × (code ≤ 14) }
-    ensures { result ≡ op_of code }
-{
-    match code {
+        9 => Op::Two(Two::Ge),
         10 => Op::One(One::Not),
         11 => Op::Two(Two::And),
         12 => Op::Two(Two::Or),
         13 => Op::One(One::Id),
-        _ => Op::Two(Two::PtrAdd),
-    }
-}
-
-// jmp, br, ret and nop; all others are effects that ask the world
-fn effect_op(code: u8) -> Op
-    requires { 64 ≤ code }
-    ensures { result ≡ op_of code }
-{
-    match code {
+        14 => Op::Two(Two::PtrAdd),
+        15..=63 => Op::New(code),
         64 => Op::Jmp,
         65 => Op::Br,
         66 => Op::Ret,
@@ -114,28 +92,16 @@ fn effect_op(code: u8) -> Op
     }
 }
 
-pub fn op_of(code: u8) -> Op
-    ensures { result ≡ op_of code }
-{
-    match code {
-        0..=0 => Op::Const,
-        1..=4 => sum_op(code),
-        5..=9 => compare_op(code),
-        10..=14 => other_op(code),
-        15..=63 => Op::New(code),
-        _ => effect_op(code),
-    }
-}
-
 // ---- literals
 // The bits of a float; those of one NaN for a NaN, which no literal holds.
+#[tactic(auto, using(crate::proofs::Literal::nan_bits))]
 fn float_bits(x: f64) -> u64
     ensures { result ≡ to_bits binary64 x }
 {
-    if x != x {
+    if x.is_nan() {
         0x7FF8_0000_0000_0000
     } else {
-        f64::to_bits(x)
+        x.to_bits()
     }
 }
 
@@ -157,13 +123,14 @@ pub fn literal_of(kind: u64, bits: u64) -> Literal
     ensures { literal_of result ≡ record { kind = kind; bits = bits } }
 {
     match kind {
-        0 => Literal::Int(words::of_bits(bits)),
+        0 => Literal::Int(bits.cast_signed()),
         1 => Literal::Bool(bits == 1),
         2 => float_literal(bits),
         _ => Literal::Char(bits as u32),
     }
 }
 
+#[tactic(auto, unfolding(record::specs::Answer::literal_of))]
 pub fn literal_kind(l: Literal) -> u8
     ensures { result ≡ (literal_of l).kind }
 {
@@ -176,14 +143,15 @@ pub fn literal_kind(l: Literal) -> u8
     }
 }
 
+#[tactic(auto, unfolding(record::specs::Answer::literal_of))]
 pub fn literal_bits(l: Literal) -> u64
     ensures { result ≡ (literal_of l).bits }
 {
     match l {
-        Literal::Int(z) => words::bits_of(z),
-        Literal::Bool(b) => b as u64,
+        Literal::Int(z) => z.cast_unsigned(),
+        Literal::Bool(b) => u64::from(b),
         Literal::Float(x) => float_bits(x),
         Literal::Nan(b) => b,
-        Literal::Char(c) => c as u64,
+        Literal::Char(c) => u64::from(c),
     }
 }

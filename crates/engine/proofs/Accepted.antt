@@ -5,7 +5,7 @@ use mathlib.Core.List.{List}
 use native.Mathlib.Omega.{arith}
 use lib.ListN.{length, get_or, take, drop, replicate, length-replicate, length-map}
 use lib.Seq.{sets, sets-eq, take-append_seam}
-use Rattle.record.specs.declared.Checked.TheVariants as answer
+use Rattle.std.specs.Prelude.{Ok}
 use Rattle.record.specs.Record.{limits, id_bytes}
 use Rattle.record.specs.Reader.{got, num_at}
 use Rattle.record.specs.Read.{read}
@@ -24,7 +24,8 @@ use Rattle.record.proofs.Judged.{accepted_as}
 use Rattle.read_layout.specs.declared.Layout.{Layout}
 use Rattle.read_layout.specs.Layout.{types_from, blocks_from, layout_of}
 use Rattle.read_layout.proofs.Tables.{types_hold}
-use Rattle.engine_quiet.specs.Spot.{laid_out, Sound, Grounded}
+use Rattle.engine_quiet.specs.declared.Ground.{Ground}
+use Rattle.engine_quiet.specs.Spot.{laid_out, Sound}
 use Rattle.engine.specs.Opened.{Opened}
 
 -- ---- items in a row
@@ -55,7 +56,7 @@ table_holds ps table n m many room e =
 abbrev pub places_of : List ℕ → List ℕ
 places_of s = blocks_from (id_width s) s (names_end s + 2) (num_at s (names_end s) 2)
 
-module _ (s : List ℕ) (h : checked s ≡ answer.Accepted) where
+module _ (s : List ℕ) (h : checked s ≡ Ok tt) where
   abbrev w : ℕ
   w = id_width s
 
@@ -108,38 +109,23 @@ module _ (s : List ℕ) (h : checked s ≡ answer.Accepted) where
   unfolding blocks_from
   many = length_items (λ p. p) (block_end w s) count at
 
-  pub grounded : Grounded s (places_of s)
+  abbrev Each' : List ℕ → Type 0
+  Each' starts = (b : ℕ) → b < length starts → Sound s (get_or starts b 0 + 2 + 2) (num_at s (get_or starts b 0) 2)
+
+  each_sound : Each' (places_of s)
   unfolding blocks_from
-  grounded =
-      record {
-        names = few;
-        each =
-            λ b l.
-            let k : b < count = omega (arith, l, many) in
-            let e : get_or (places_of s) b 0 ≡ place b = item_at (λ p. p) (block_end w s) 0 b count at k in
-            subst (λ (p : ℕ). Sound s (p + 2 + 2) (num_at s p 2)) (sym e) (block_sound b k);
-      }
+  each_sound b l =
+      let k : b < count = omega (arith, l, many) in
+      let e : get_or (places_of s) b 0 ≡ place b = item_at (λ p. p) (block_end w s) 0 b count at k in
+      subst (λ (p : ℕ). Sound s (p + 2 + 2) (num_at s p 2)) (sym e) (block_sound b k)
 
   -- ---- laid open
   blocks_laid : (record_in s).blocks ≡ laid_out s (places_of s)
   unfolding blocks_from blocks_in
   blocks_laid = blocks_again s ∙ sym (map_items (block_in w s) (λ p. p) (block_end w s) count at)
 
-  pub opened : (types starts : List ℕ) → types ≡ types_in s → starts ≡ places_of s → Opened s types starts
-  opened types starts et es =
-      record {
-        it = record_from s;
-        end = (accepted_as s h).behind;
-        accepted = (accepted_as s h).got;
-        types_are = et;
-        blocks_are = blocks_laid ∙ ap (laid_out s) (sym es);
-        width = ap id_bytes (version_in s);
-        grounded = subst (Grounded s) (sym es) grounded;
-        few = omega (arith, ap length et, types_many, few);
-      }
-    where
-      types_many : length (types_in s) ≡ names_count s
-      types_many = length-map (record_in s).names _ ∙ names_in s
+  types_many : length (types_in s) ≡ names_count s
+  types_many = length-map (record_in s).names _ ∙ names_in s
 
   -- ---- the tables; l: what the head says
   module _ (l : Layout) (e : l ≡ layout_of s) where
@@ -169,3 +155,23 @@ module _ (s : List ℕ) (h : checked s ≡ answer.Accepted) where
         ap (λ (n : ℕ). take n table) blocks_are ∙
         table_holds (places_of s) table count 64 many few_blocks
         (f ∙ ap (λ (x : Layout). sets (replicate 64 0) 0 (blocks_from x.width s (x.end + 2) x.blocks)) e)
+
+    pub width_is : l.width ≡ id_width s
+    unfolding layout_of
+    width_is = ap (λ (x : Layout). x.width) e
+
+pub opened :
+    (g : Ground) → checked g.s.now ≡ Ok tt → g.w ≡ id_width g.s.now → g.types.now ≡ types_in g.s.now → g.starts.now ≡ places_of g.s.now →
+    Opened g
+opened g h ew et es =
+    let s = g.s.now in
+    record {
+      it = record_from s;
+      end = (accepted_as s h).behind;
+      accepted = (accepted_as s h).got;
+      types_are = et;
+      blocks_are = blocks_laid s h ∙ ap (laid_out s) (sym es);
+      width = ap id_bytes (version_in s);
+      grounded = record { width = ew; names = few s h; each = subst (Each' s h) (sym es) (each_sound s h) };
+      few = omega (arith, ap length et, types_many s h, few s h);
+    }

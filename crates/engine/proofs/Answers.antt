@@ -9,61 +9,72 @@ use native.Mathlib.Nat.{add-zero}
 use lib.ListN.{length}
 use lib.Dec.{ltb}
 use borrow.Author.Tests.{ltb-false}
-use Rattle.arith.proofs.Clash.{clash}
 use Rattle.record.specs.Record.{limits, function, plain, names_of, id_bytes}
 use Rattle.record.specs.Decode.{id_width}
 use Rattle.machine.specs.Machine.{Event}
 use Rattle.running.specs.declared.Ending.{Ending}
-use Rattle.running.specs.declared.Ran.{Ran}
-use Rattle.running.specs.declared.Ran.TheVariants.{Done, Unfit, Room}
+use Rattle.std.proofs.Common.{Err}
+use Rattle.running.specs.declared.RunError.TheVariants.{Unfit, Room}
 use Rattle.running.specs.Steps.{Config, shifted}
 use Rattle.running.specs.House.{values_from, store_bytes, events_bytes}
-use Rattle.running.specs.Engine.{unfit, ran, running_for, with_inputs, outcome, ending_of, events_left, store_left, too_short, result, written, engine, engine_events, engine_store}
+use Rattle.running.specs.Engine.{unfit, ran, running_for, with_inputs, outcome, ending_of, events_left, store_left, too_short, result, written, Ran, done, engine, engine_events, engine_store}
 use Rattle.running.proofs.Engine.{events_written, store_written}
 use Rattle.running.proofs.Cases.{given_outcome, engine_unfit}
 use Rattle.write_bytes.specs.Put.{put, Wrote}
 use Rattle.write_bytes.proofs.Put.{put_first}
+use Rattle.engine_cells.specs.declared.Cells.{Cells}
 use Rattle.engine_cells.specs.Cells.{store_in}
-use Rattle.engine_quiet.specs.Spot.{unfit_number, stand_of}
+use Rattle.engine_quiet.specs.declared.Ground.{Ground}
+use Rattle.engine_quiet.specs.declared.Over.TheVariants as over
+use Rattle.engine_quiet.specs.Spot.{stand_of}
 use Rattle.engine_events.specs.declared.Turn.{Turn}
 use Rattle.engine_events.specs.Turn.{config_in}
 use Rattle.engine_steps.specs.Came.{unfit_of, Came}
-use Rattle.engine.specs.Opened.{Engine, told_on}
+use Rattle.engine.specs.Opened.{Begun, Engine, told_on}
 use Rattle.engine.proofs.Begun.{stays, Fed}
-use Rattle.engine.proofs.Runs.{came_on, Finishes, finishes, fits_on, same_events, Reached, unfit_later, none_told, reaches}
+use Rattle.engine.proofs.Runs.{Finishes, finishes, fits_on, same_events, Reached, unfit_later, none_told, reaches}
 
 neither : (a b : Bool) → (a || b) ≡ false → (a ≡ false) × (b ≡ false)
-neither true b e = clash (cc e)
+neither true b e = absurd (cc e)
 neither false b e = (refl, e)
 
 -- ---- by where the run is at its end
 module _
-    (s types starts store list : List ℕ) {before : List ℕ} {t₀ : Turn} (fed : Fed s types starts store list before t₀)
+    (g : Ground) (store : List ℕ) {before : Cells} {t₀ : Turn} (fed : Fed g store before t₀)
     (events left : List ℕ)
   where
+    abbrev s : List ℕ
+    s = g.s.now
+
+    abbrev types : List ℕ
+    types = g.types.now
+
+    abbrev list : List ℕ
+    list = g.list.now
+
     -- 13 for an answer
     pub unfit_answer :
-        unfit_of s types starts t₀.more (config_in s list before t₀) ≡ true →
-        Engine s store list t₀.more events left events left Unfit
+        unfit_of g t₀.more (config_in g before t₀) ≡ true →
+        Engine s store list t₀.more events left events left (Err Unfit)
     unfit_answer h =
-        stays s store list t₀.more events left Unfit refl
+        stays s store list t₀.more events left (Err Unfit) refl
         (engine_unfit s store list t₀.more events left fed.given (fed.passes ∙ ap not h))
 
     -- size: the bytes of the store
     module _
-        {after : List ℕ} {t : Turn} {added : List Event} (reached : Reached s types starts list before after t₀ t added)
+        {after : Cells} {t : Turn} {added : List Event} (reached : Reached g before after t₀ t added)
         (size : ℕ) (stored : size ≡ length (store_bytes (values_from (store_in after) 0 (length types))))
       where
         abbrev last : Config
-        last = shifted added (t₀.more - t.more) (config_in s list after t)
+        last = shifted added (t₀.more - t.more) (config_in g after t)
 
         comes : outcome limits s store list t₀.more ≡ ran (id_width s) (length types) last
         unfolding with_inputs
         comes =
-            let g = fed.given in
-            let f = function (plain g.rec) in
-            given_outcome s store list t₀.more events left g ∙
-            ap (λ (x : Bool). cond x (ran (id_bytes g.rec.version) (names_of f) (running_for t₀.more f g.values g.told)) unfit)
+            let v = fed.given in
+            let f = function (plain v.rec) in
+            given_outcome s store list t₀.more events left v ∙
+            ap (λ (x : Bool). cond x (ran (id_bytes v.rec.version) (names_of f) (running_for t₀.more f v.values v.told)) unfit)
             (fed.passes ∙ ap not reached.fits) ∙
             (λ i. ran (fed.width i) (fed.names i) ((fed.runs ∙ reached.config) i))
 
@@ -82,7 +93,7 @@ module _
         steps_many = add-zero (t₀.more - t.more)
 
         abbrev said : Bool → Ran
-        said b = cond b (Room t.event size) (Done t.event size (t₀.more - t.more) (ending_of (stand_of s t.spot)))
+        said b = cond b (Err (Room t.event size)) (done t.event size (t₀.more - t.more) (ending_of (stand_of s t.spot)))
 
         short_as :
             too_short (length events) (length left) (length (events_left (id_width s) last)) (length (store_left (length types) last)) ≡
@@ -94,14 +105,14 @@ module _
         answers =
             ap (result (length events) (length left)) comes ∙
             λ i.
-            cond (short_as i) (Room (events_many i) (store_many i))
-            (Done (events_many i) (store_many i) (steps_many i) (ending_of (stand_of s t.spot)))
+            cond (short_as i) (Err (Room (events_many i) (store_many i)))
+            (done (events_many i) (store_many i) (steps_many i) (ending_of (stand_of s t.spot)))
 
         -- 14
         pub room_answer :
             too_short (length events) (length left) t.event size ≡ true →
-            Engine s store list t₀.more events left events left (Room t.event size)
-        room_answer h = stays s store list t₀.more events left (Room t.event size) refl (answers ∙ ap said h)
+            Engine s store list t₀.more events left events left (Err (Room t.event size))
+        room_answer h = stays s store list t₀.more events left (Err (Room t.event size)) refl (answers ∙ ap said h)
 
         -- done
         pub done_answer :
@@ -110,7 +121,7 @@ module _
             events' ≡ put events 0 (events_bytes (id_width s) added) →
             left' ≡ put left 0 (store_bytes (values_from (store_in after) 0 (length types))) →
             steps ≡ t₀.more - t.more → how ≡ ending_of (stand_of s t.spot) →
-            Engine s store list t₀.more events left events' left' (Done t.event size steps how)
+            Engine s store list t₀.more events left events' left' (done t.event size steps how)
         unfolding engine_events engine_store store_left
         done_answer enough ee el es eh =
             let room = neither (ltb (length events) t.event) (ltb (length left) size) enough in
@@ -118,7 +129,7 @@ module _
             let ll : size ≤ length left = ltb-false (length left) size room.1 in
             let o = outcome limits s store list t₀.more in
             record {
-              answer = (λ i. Done t.event size (es i) (eh i)) ∙ sym (answers ∙ ap said enough);
+              answer = (λ i. done t.event size (es i) (eh i)) ∙ sym (answers ∙ ap said enough);
               events_are =
                   ee ∙ put_first events (events_bytes (id_width s) added) (omega (arith, reached.size, le)) ∙
                   sym
@@ -129,47 +140,47 @@ module _
                   sym (store_written (length events) left o (id_width s) (length types) last comes (short_as ∙ enough));
             }
 
--- ---- by the runs of the code: from t₀ to r, before the first event; from f, which is r with events told, to t
+-- ---- by the runs of the code: from t₀ to r, before the first event, and from there, with events told, to t
 module _
-    {s types starts store list cells₀ cells₁ cells₂ l₁ m₁ l₂ m₂ : List ℕ} {t₀ r f t : Turn}
-    (fed : Fed s types starts store list cells₀ t₀) (waits : t₀.tells ≡ false) (start : t₀.event ≡ 0)
-    (a : Came s types starts list cells₀ cells₁ l₁ m₁ t₀ r) (e : f ≡ told_on r)
-    (b : Came s types starts list cells₁ cells₂ l₂ m₂ f t) (events left : List ℕ)
+    {g : Ground} {store : List ℕ} {cells₀ cells₁ cells₂ : Cells} {l₁ m₁ l₂ m₂ : List ℕ} {t₀ r t : Turn}
+    (fed : Fed g store cells₀ t₀) (begun : Begun g t₀)
+    (a : Came g cells₀ cells₁ l₁ m₁ t₀ r) (b : Came g cells₁ cells₂ l₂ m₂ (told_on r) t) (events left : List ℕ)
   where
-    pub unfit_told : t.spot.stop ≡ unfit_number → Engine s store list t₀.more events left events left Unfit
-    unfit_told u =
-        unfit_answer s types starts store list fed events left (unfit_later s types starts list a waits ((came_on r e b).unfit u))
+    abbrev Leaves : List ℕ → List ℕ → Ran → Type 0
+    Leaves events' left' x = Engine g.s.now store g.list.now t₀.more events left events' left' x
+
+    abbrev bytes : List ℕ
+    bytes = store_bytes (values_from (store_in cells₂) 0 (length g.types.now))
+
+    pub unfit_told : t.spot.stop ≡ over.Unfit → Leaves events left (Err Unfit)
+    unfit_told u = unfit_answer g store fed events left (unfit_later g a begun.waits (b.unfit u))
 
     -- size: the bytes of the store
-    module _
-        (fits : t.spot.stop ≢ unfit_number) {size : ℕ} {l₃ m₃ : List ℕ}
-        (measured : Wrote l₃ m₃ 0 size (store_bytes (values_from (store_in cells₂) 0 (length types))))
-      where
-        told : Finishes s types starts list cells₁ cells₂ l₂ m₂ (told_on r) t
-        told = finishes s types starts list (came_on r e b) refl fits
+    module _ (fits : t.spot.stop ≢ over.Unfit) {size : ℕ} {l₃ m₃ : List ℕ} (measured : Wrote l₃ m₃ 0 size bytes) where
+      told : Finishes g cells₁ cells₂ l₂ m₂ (told_on r) t
+      told = finishes g b refl fits
 
-        reached : Reached s types starts list cells₀ cells₂ t₀ t told.added
-        reached = reaches s types starts list a waits start (came_on r e b).fewer told
+      reached : Reached g cells₀ cells₂ t₀ t told.added
+      reached = reaches g a begun.waits begun.first b.fewer told
 
-        measure : size ≡ length (store_bytes (values_from (store_in cells₂) 0 (length types)))
-        measure = omega (arith, measured.end)
+      measure : size ≡ length bytes
+      measure = omega (arith, measured.end)
 
-        pub room_told :
-            too_short (length events) (length left) t.event size ≡ true →
-            Engine s store list t₀.more events left events left (Room t.event size)
-        room_told h = room_answer s types starts store list fed events left reached size measure h
+      pub room_told :
+          too_short (length events) (length left) t.event size ≡ true → Leaves events left (Err (Room t.event size))
+      room_told h = room_answer g store fed events left reached size measure h
 
-        -- again from f, with events written
-        pub done_told :
-            {again events' left' : List ℕ} {u : Turn} {how : Ending} {p : ℕ} →
-            too_short (length events) (length left) t.event size ≡ false →
-            Came s types starts list cells₁ again events events' f u →
-            Wrote left left' 0 p (store_bytes (values_from (store_in cells₂) 0 (length types))) →
-            how ≡ ending_of (stand_of s t.spot) →
-            Engine s store list t₀.more events left events' left' (Done t.event size (t₀.more - t.more) how)
-        done_told {again} {events'} {left'} {u} {how} {p} enough c w h =
-            let second = fits_on s types starts list (came_on r e c) refl told.fits in
-            let first : r.event ≡ 0 = none_told s types starts list a waits start in
-            let same : second.added ≡ told.added = same_events s types starts list told second in
-            done_answer s types starts store list fed events left reached size measure enough
-            (second.wrote.out ∙ λ i. put events (first i) (events_bytes (id_width s) (same i))) w.out refl h
+      -- again from there, with events written
+      pub done_told :
+          {again : Cells} {events' left' : List ℕ} {u : Turn} {how : Ending} {p : ℕ} →
+          too_short (length events) (length left) t.event size ≡ false →
+          Came g cells₁ again events events' (told_on r) u →
+          Wrote left left' 0 p bytes →
+          how ≡ ending_of (stand_of g.s.now t.spot) →
+          Leaves events' left' (done t.event size (t₀.more - t.more) how)
+      done_told {again} {events'} {left'} {u} {how} {p} enough c w h =
+          let second = fits_on g c refl told.fits in
+          let first : r.event ≡ 0 = none_told g a begun.waits begun.first in
+          let same : second.added ≡ told.added = same_events g told second in
+          done_answer g store fed events left reached size measure enough
+          (second.wrote.out ∙ λ i. put events (first i) (events_bytes (id_width g.s.now) (same i))) w.out refl h

@@ -1,36 +1,35 @@
 -- What a call begins with: check's refusal, a store and a list of answers that read or not, and the run at its start.
-use Prim.Native.Nat.{ℕ, zero, suc, ◌*◌, ◌%◌, ◌<◌, ◌≤◌}
-use mathlib.Core.Path.{◌≡◌, refl, sym, ap, ◌∙◌, subst}
+use Prim.Native.Nat.{ℕ, suc, ◌<◌, ◌≤◌}
+use mathlib.Core.Path.{◌≡◌, refl, sym, ap, ◌∙◌}
 use mathlib.Core.List.{List, []}
 use mathlib.Core.Bool.{Bool, true, false, cond, not, ◌&&◌}
 use mathlib.Core.Option.{Option}
 use native.Mathlib.Omega.{arith}
-use lib.ListN.{length, get_or, replicate, length-replicate}
+use lib.ListN.{length}
 use lib.Dec.{eqb}
 use Rattle.arith.specs.Value.{Val}
-use Rattle.arith.proofs.Clash.{clash}
-use Rattle.record.specs.declared.Refusal.{Refusal}
-use Rattle.record.specs.declared.Checked.TheVariants as answer
+use Rattle.std.proofs.Common.{Option as CodeOption, None, Some, Err}
+use Rattle.record.specs.declared.Fault.{Fault}
 use Rattle.record.specs.Record.{Instr, Block, Function, function, plain, names_of, id_bytes}
 use Rattle.record.specs.Reader.{Res, got, fault}
 use Rattle.record.specs.Answer.{checked}
 use Rattle.record.specs.Decode.{items, id_width}
 use Rattle.record.proofs.Judged.{refused_as}
 use Rattle.machine.specs.Machine.{plain_machine, Answer}
-use Rattle.running.specs.declared.Ran.{Ran}
-use Rattle.running.specs.declared.Ran.TheVariants.{Refused, Unfit}
+use Rattle.running.specs.declared.RunError.TheVariants.{Refused, Unfit}
 use Rattle.running.specs.Steps.{land, steps, start}
 use Rattle.running.specs.House.{stored, answers, of_types, holding}
 use Rattle.running.specs.Items.{answer_from, answer_end}
-use Rattle.running.specs.Engine.{unfit_within, starting, running_for, lets_pass, engine}
+use Rattle.running.specs.Engine.{unfit_within, starting, running_for, lets_pass, Ran, engine}
 use Rattle.running.proofs.Engine.{Given}
 use Rattle.running.proofs.Cases.{engine_refuses, store_unread, answers_unread, engine_unfit}
 use Rattle.running.proofs.Lent.{is_done, untouched}
-use Rattle.engine_cells.specs.Cells.{held_by, word_in, offset_in, store_in}
-use Rattle.engine_house.specs.declared.Told.TheVariants.{Are, No}
-use Rattle.engine_house.specs.Reads.{Blank, StoreAs, ListAs, longest_list}
+use Rattle.engine_cells.specs.declared.Cells.{Cells}
+use Rattle.engine_cells.specs.Cells.{store_in}
+use Rattle.engine_house.specs.Reads.{FitAs, StoreAs, ListAs, longest_list}
+use Rattle.engine_quiet.specs.declared.Ground.{Ground}
 use Rattle.engine_quiet.specs.declared.Spot.{Spot}
-use Rattle.engine_quiet.specs.Spot.{laid_out, told_types, Landed}
+use Rattle.engine_quiet.specs.Spot.{blocks_of, told_types, Landed}
 use Rattle.engine_events.specs.declared.Turn.{Turn}
 use Rattle.engine_events.specs.Turn.{config_in, events_ahead}
 use Rattle.engine_steps.specs.Came.{steps_of, unfit_of}
@@ -43,65 +42,54 @@ module _ (s store list : List ℕ) (limit : ℕ) (events left : List ℕ) where
       let u = untouched s store list limit events left (ap is_done e ∙ d) in
       record { answer = sym e; events_are = sym u.0; store_is = sym u.1 }
 
-  pub refuses :
-      (k : Refusal) (o : ℕ) → checked s ≡ answer.Refused k o → Engine s store list limit events left events left (Refused k o)
-  refuses k o h = stays (Refused k o) refl (engine_refuses s store list limit events left k o (refused_as s k o h))
-
--- ---- a table of cells in which each word is that of nothing
-all_nothing : (n i : ℕ) → ◌≡◌ {A = ℕ} (get_or (replicate n 255) i 255) 255
-all_nothing zero i = refl
-all_nothing (suc n) zero = refl
-all_nothing (suc n) (suc i) = all_nothing n i
-
-pub blank : Blank (replicate 768 255)
-unfolding store_in held_by
-blank =
-    let cells = replicate {A = ℕ} 768 255 in
-    record {
-      many = length-replicate {A = ℕ} 768 255;
-      none_set = λ x. ap (λ (k : ℕ). held_by (k % 256) (word_in cells x.0) (offset_in cells x.0)) (all_nothing 768 (3 * x.0));
-    }
+  pub refuses : (f : Fault) → checked s ≡ Err f → Engine s store list limit events left events left (Err (Refused f))
+  refuses f h = stays (Err (Refused f)) refl (engine_refuses s store list limit events left f.refusal f.offset (refused_as s f h))
 
 -- ---- the list of answers
-module _ (s types starts list : List ℕ) where
+module _ (g : Ground) where
+  abbrev list : List ℕ
+  list = g.list.now
+
   pub answers_refused :
-      Opened s types starts → ListAs list (answers list 0) No → (store : List ℕ) (limit : ℕ) (events left : List ℕ) →
-      Engine s store list limit events left events left Unfit
+      Opened g → ListAs list (answers list 0) None → (store : List ℕ) (limit : ℕ) (events left : List ℕ) →
+      Engine g.s.now store list limit events left events left (Err Unfit)
   unfolding ListAs
   answers_refused o h store limit events left = go (answers list 0) refl h
     where
-      go : (v : Res (List Answer)) → answers list 0 ≡ v → ListAs list v No → Engine s store list limit events left events left Unfit
-      go (got xs p) e h = clash (cc h.are)
+      go :
+          (v : Res (List Answer)) → answers list 0 ≡ v → ListAs list v None →
+          Engine g.s.now store list limit events left events left (Err Unfit)
+      go (got xs p) e h = absurd (cc h.are)
       go (fault k q) e h =
-          stays s store list limit events left Unfit refl
-          (answers_unread s store list limit events left o.it o.end o.accepted k q e)
+          stays g.s.now store list limit events left (Err Unfit) refl
+          (answers_unread g.s.now store list limit events left o.it o.end o.accepted k q e)
 
 ahead_few : (b : Bool) (n : ℕ) → cond b 0 (suc n) ≤ suc n
 ahead_few true n = omega arith
 ahead_few false n = omega arith
 
-module _ (s starts list : List ℕ) where
+module _ (g : Ground) where
   -- p: where the run lands at its start
   pub begun :
-      (n limit : ℕ) (p : Spot) → ListAs list (answers list 0) (Are n) → Landed s starts (land (laid_out s starts) 0) p →
-      Begun s starts list (record { spot = p; more = limit; answer = 5; answers = n; event = 0; tells = false })
+      (n limit : ℕ) (p : Spot) → ListAs (list g) (answers (list g) 0) (Some n) → Landed g (land (blocks_of g) 0) p →
+      Begun g (record { spot = p; more = limit; answer = 5; answers = n; event = 0; tells = false })
   unfolding ListAs
-  begun n limit p h l = go (answers list 0) refl h
+  begun n limit p h l = go (answers (list g) 0) refl h
     where
       t : Turn
       t = record { spot = p; more = limit; answer = 5; answers = n; event = 0; tells = false }
 
-      go : (v : Res (List Answer)) → answers list 0 ≡ v → ListAs list v (Are n) → Begun s starts list t
+      go : (v : Res (List Answer)) → answers (list g) 0 ≡ v → ListAs (list g) v (Some n) → Begun g t
       go (got xs q) e h =
           let m : h.count ≡ n = cc h.are in
-          let few : n ≤ length list = omega (arith, m, h.few) in
-          let short : length list < longest_list = h.short in
+          let few : n ≤ length (list g) = omega (arith, m, h.few) in
+          let short : length (list g) < longest_list = h.short in
           let ahead : events_ahead t ≤ suc n = ahead_few (eqb p.left 0) n in
           record {
             told = xs;
             end = q;
             reads = e;
-            those = h.those ∙ ap (items (answer_from list) (answer_end list) 5) m;
+            those = h.those ∙ ap (items (answer_from (list g)) (answer_end (list g)) 5) m;
             stand = l.stand;
             ready =
                 record {
@@ -114,29 +102,35 @@ module _ (s starts list : List ℕ) where
             first = refl;
             waits = refl;
           }
-      go (fault k o) e h = clash (cc h)
+      go (fault k o) e h = absurd (cc h)
 
--- ---- the store; cells: the table that was filled from it, t: the run at its start
+-- ---- the store; cells: those that were filled from it, t: the run at its start
 -- inputs that read, the store's values each of its name's type: the machine from them and the code at its start have the same run
-pub record Fed (s types starts store list cells : List ℕ) (t : Turn) : Type 0 where
-  pub given : Given s store list
-  pub width : id_bytes given.rec.version ≡ id_width s
-  pub names : names_of (function (plain given.rec)) ≡ length types
+pub record Fed (g : Ground) (store : List ℕ) (cells : Cells) (t : Turn) : Type 0 where
+  pub given : Given g.s.now store g.list.now
+  pub width : id_bytes given.rec.version ≡ id_width g.s.now
+  pub names : names_of (function (plain given.rec)) ≡ length g.types.now
   pub runs :
       running_for t.more (function (plain given.rec)) given.values given.told ≡
-      steps_of s types starts t.more (config_in s list cells t)
+      steps_of g t.more (config_in g cells t)
   pub passes :
       lets_pass t.more (function (plain given.rec)) given.values given.told ≡
-      not (unfit_of s types starts t.more (config_in s list cells t))
+      not (unfit_of g t.more (config_in g cells t))
 
-module _ (s types starts store list cells : List ℕ) (t : Turn) (o : Opened s types starts) (b : Begun s starts list t) where
+module _ (g : Ground) (store : List ℕ) (t : Turn) (o : Opened g) (b : Begun g t) where
+  abbrev s : List ℕ
+  s = g.s.now
+
+  abbrev types : List ℕ
+  types = g.types.now
+
   abbrev f : Function
   f = function (plain o.it)
 
   many : names_of f ≡ length types
   many = ap length (sym o.types_are)
 
-  abbrev given_by : (vs : List (Option Val)) (p : ℕ) → stored (names_of f) store 0 ≡ got vs p → Given s store list
+  abbrev given_by : (vs : List (Option Val)) (p : ℕ) → stored (names_of f) store 0 ≡ got vs p → Given s store (list g)
   given_by vs p e =
       record {
         rec = o.it;
@@ -150,49 +144,62 @@ module _ (s types starts store list cells : List ℕ) (t : Turn) (o : Opened s t
         list_reads = b.reads;
       }
 
-  -- r: whether the store reads and each value is of its name's type
+  typed_as : (vs : List (Option Val)) (c : Bool) → of_types types vs ≡ c → of_types f.types vs ≡ c
+  typed_as vs c e = ap (λ (ts : List ℕ). of_types ts vs) (sym o.types_are) ∙ e
+
   pub store_refused :
-      {r : Bool} → StoreAs types (stored (length types) store 0) cells r → r ≡ false → (events left : List ℕ) →
-      Engine s store list t.more events left events left Unfit
-  unfolding StoreAs
-  store_refused h e events left =
-      stays s store list t.more events left Unfit refl
-      (go (stored (length types) store 0) (ap (λ (n : ℕ). stored n store 0) many)
-      (subst (StoreAs types (stored (length types) store 0) cells) e h))
+      StoreAs types (stored (length types) store 0) None → (events left : List ℕ) →
+      Engine s store (list g) t.more events left events left (Err Unfit)
+  unfolding StoreAs FitAs
+  store_refused h events left =
+      stays s store (list g) t.more events left (Err Unfit) refl
+      (go (stored (length types) store 0) (ap (λ (n : ℕ). stored n store 0) many) h)
     where
       go :
-          (v : Res (List (Option Val))) → stored (names_of f) store 0 ≡ v → StoreAs types v cells false →
-          engine s store list t.more events left ≡ Unfit
-      go (got vs p) e h =
-          let typed : of_types f.types vs ≡ false = ap (λ (ts : List ℕ). of_types ts vs) (sym o.types_are) ∙ sym h.0 in
-          engine_unfit s store list t.more events left (given_by vs p e)
-          (ap (λ (x : Bool). x && not (unfit_within (plain_machine f) f.blocks t.more (starting f vs b.told))) typed)
-      go (fault k q) e h = store_unread s store list t.more events left o.it o.end o.accepted k q e
+          (v : Res (List (Option Val))) → stored (names_of f) store 0 ≡ v → StoreAs types v None →
+          engine s store (list g) t.more events left ≡ Err Unfit
+      go (got vs p) e h = by (of_types types vs) refl h
+        where
+          by : (c : Bool) → of_types types vs ≡ c → FitAs c vs None → engine s store (list g) t.more events left ≡ Err Unfit
+          by true q k = absurd (cc k.are)
+          by false q k =
+              engine_unfit s store (list g) t.more events left (given_by vs p e)
+              (ap (λ (x : Bool). x && not (unfit_within (plain_machine f) f.blocks t.more (starting f vs b.told))) (typed_as vs false q))
+      go (fault k q) e h = store_unread s store (list g) t.more events left o.it o.end o.accepted k q e
 
-  starts_there : (vs : List (Option Val)) → store_in cells ≡ holding vs → starting f vs b.told ≡ config_in s list cells t
-  unfolding start
-  starts_there vs held =
-      let stand = ap (λ (bs : List (Block Instr)). land bs 0) o.blocks_are ∙ sym b.stand in
-      λ i. record { stand = stand i; mach = record { store = sym held i; answers = b.those i; events = []; steps = 0 } }
+  module _ (cells : Cells) where
+    starts_there : (vs : List (Option Val)) → store_in cells ≡ holding vs → starting f vs b.told ≡ config_in g cells t
+    unfolding start
+    starts_there vs held =
+        let stand = ap (λ (bs : List (Block Instr)). land bs 0) o.blocks_are ∙ sym b.stand in
+        λ i. record { stand = stand i; mach = record { store = sym held i; answers = b.those i; events = []; steps = 0 } }
 
-  pub fed : {r : Bool} → StoreAs types (stored (length types) store 0) cells r → r ≡ true → Fed s types starts store list cells t
-  unfolding StoreAs
-  fed h e =
-      go (stored (length types) store 0) (ap (λ (n : ℕ). stored n store 0) many)
-      (subst (StoreAs types (stored (length types) store 0) cells) e h)
-    where
-      go :
-          (v : Res (List (Option Val))) → stored (names_of f) store 0 ≡ v → StoreAs types v cells true →
-          Fed s types starts store list cells t
-      go (got vs p) e h =
-          let typed : of_types f.types vs ≡ true = ap (λ (ts : List ℕ). of_types ts vs) (sym o.types_are) ∙ sym h.0 in
-          let there = starts_there vs (h.1 refl) in
-          record {
-            given = given_by vs p e;
-            width = o.width;
-            names = many;
-            runs = λ i. steps (told_types (sym o.types_are i)) (o.blocks_are i) t.more (there i);
-            passes =
-                λ i. typed i && not (unfit_within (told_types (sym o.types_are i)) (o.blocks_are i) t.more (there i));
-          }
-      go (fault k q) e h = clash (cc h)
+    fed_by :
+        (vs : List (Option Val)) (p : ℕ) → stored (names_of f) store 0 ≡ got vs p → of_types types vs ≡ true →
+        store_in cells ≡ holding vs → Fed g store cells t
+    fed_by vs p e q held =
+        let typed : of_types f.types vs ≡ true = typed_as vs true q in
+        let there = starts_there vs held in
+        record {
+          given = given_by vs p e;
+          width = o.width;
+          names = many;
+          runs = λ i. steps (told_types (sym o.types_are i)) (o.blocks_are i) t.more (there i);
+          passes =
+              λ i. typed i && not (unfit_within (told_types (sym o.types_are i)) (o.blocks_are i) t.more (there i));
+        }
+
+    pub fed : {r : CodeOption Cells} → StoreAs types (stored (length types) store 0) r → r ≡ Some cells → Fed g store cells t
+    unfolding StoreAs FitAs
+    fed {r} h e = go (stored (length types) store 0) (ap (λ (n : ℕ). stored n store 0) many) h
+      where
+        go : (v : Res (List (Option Val))) → stored (names_of f) store 0 ≡ v → StoreAs types v r → Fed g store cells t
+        go (got vs p) q h = by (of_types types vs) refl h
+          where
+            by : (c : Bool) → of_types types vs ≡ c → FitAs c vs r → Fed g store cells t
+            by true u k =
+                let both : Some k.cells ≡ Some cells = sym k.are ∙ e in
+                let same : k.cells ≡ cells = cc both in
+                fed_by vs p q u (ap store_in (sym same) ∙ k.hold)
+            by false u k = absurd (cc (k, e))
+        go (fault k o) q h = absurd (cc (h, e))

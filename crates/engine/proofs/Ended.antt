@@ -1,5 +1,5 @@
 -- How a run ended, by the spot at which it stands.
-use Prim.Native.Nat.{ℕ, zero, suc, ◌<◌}
+use Prim.Native.Nat.{ℕ, ◌<◌}
 use mathlib.Core.Path.{◌≡◌, refl, sym, ap, ◌∙◌}
 use mathlib.Core.Logic.{◌≢◌}
 use mathlib.Core.List.{List}
@@ -12,6 +12,8 @@ use Rattle.machine.specs.Machine.{Stop}
 use Rattle.running.specs.declared.Ending.TheVariants.{Division, Limit}
 use Rattle.running.specs.Steps.{over, first_of}
 use Rattle.running.specs.Engine.{stop_ending, ending_of}
+use Rattle.engine_quiet.specs.declared.Over.{Over}
+use Rattle.engine_quiet.specs.declared.Over.TheVariants as over'
 use Rattle.engine_quiet.specs.declared.Spot.{Spot}
 use Rattle.engine_quiet.specs.Spot.{stop_by, body_at, stand_of}
 
@@ -31,18 +33,19 @@ module _ (s : List ℕ) (p : Spot) where
   by_limit h =
       sym (ap (λ (is : List Instr). ending_of (first_of p.block is (over stop_at))) (instrs_more (id_width s) s p.at p.left h))
 
-  -- n: the number of the stop
-  pub by_stop : (n : ℕ) → p.left ≡ 0 → p.stop ≡ n → stop_ending (stop_by n id_at) ≡ ending_of (stand_of s p)
-  by_stop n z e = sym (ap ending_of (stopped z) ∙ ap (λ (k : ℕ). stop_ending (stop_by k id_at)) e)
+  pub by_stop : (n : Over) → p.left ≡ 0 → p.stop ≡ n → stop_ending (stop_by n id_at) ≡ ending_of (stand_of s p)
+  by_stop n z e = sym (ap ending_of (stopped z) ∙ ap (λ (k : Over). stop_ending (stop_by k id_at)) e)
 
   pub by_division :
-      (id : ℕ) → id ≡ id_at → p.left ≡ 0 → p.stop ≢ 0 → p.stop ≢ 1 → p.stop ≢ 2 → p.stop ≢ 3 → Division id ≡ ending_of (stand_of s p)
+      (id : ℕ) → id ≡ id_at → p.left ≡ 0 → p.stop ≢ over'.End → p.stop ≢ over'.Ret → p.stop ≢ over'.Halt → p.stop ≢ over'.Unset →
+      Division id ≡ ending_of (stand_of s p)
   unfolding stop_by stop_ending
   by_division id i z a b c d = ap Division i ∙ go p.stop refl ∙ by_stop p.stop z refl
     where
-      go : (n : ℕ) → p.stop ≡ n → Division id_at ≡ stop_ending (stop_by n id_at)
-      go zero e = absurd (a e)
-      go (suc zero) e = absurd (b e)
-      go (suc (suc zero)) e = absurd (c e)
-      go (suc (suc (suc zero))) e = absurd (d e)
-      go (suc (suc (suc (suc n)))) e = refl
+      go : (n : Over) → p.stop ≡ n → Division id_at ≡ stop_ending (stop_by n id_at)
+      go over'.End e = absurd (a e)
+      go over'.Ret e = absurd (b e)
+      go over'.Halt e = absurd (c e)
+      go over'.Unset e = absurd (d e)
+      go over'.Division e = refl
+      go over'.Unfit e = refl

@@ -1,38 +1,39 @@
 -- An accepted record laid open for a run: its types, the places of its blocks, and where the run begins.
-use Rattle.std.specs.Prelude.{ℕ, ◌≤◌, List, true, false, ◌≡◌, ◌≢◌, length}
+use Rattle.std.specs.Prelude.{ℕ, ◌≤◌, List, false, true, ◌≡◌, ◌≢◌, length}
 use Rattle.record.specs.Record.{Placed, Record, plain, function, limits, id_bytes}
 use Rattle.record.specs.Reader.{got}
 use Rattle.record.specs.Typing.{accept}
 use Rattle.record.specs.Decode.{id_width}
 use Rattle.machine.specs.Machine.{Answer}
-use Rattle.running.specs.declared.Ran.{Ran}
 use Rattle.running.specs.Steps.{land}
 use Rattle.running.specs.House.{answers}
-use Rattle.running.specs.Engine.{engine, engine_events, engine_store}
-use Rattle.engine_quiet.specs.Spot.{unfit_number, laid_out, stand_of, Grounded}
+use Rattle.running.specs.Engine.{Ran, engine, engine_events, engine_store}
+use Rattle.engine_quiet.specs.declared.Ground.{Ground}
+use Rattle.engine_quiet.specs.declared.Over.TheVariants.{Unfit}
+use Rattle.engine_quiet.specs.Spot.{blocks_of, stand_of, Grounded}
 use Rattle.engine_events.specs.declared.Turn.{Turn}
 use Rattle.engine_events.specs.Turn.{answers_left, Ready}
 
 -- the types of its names, and the places of its blocks
-pub record Opened (s types starts : List ℕ) : Type 0 where
+pub record Opened (g : Ground) : Type 0 where
   pub it : Record Placed
   pub end : ℕ
-  pub accepted : accept limits s ≡ got it end
-  pub types_are : types ≡ (function (plain it)).types
-  pub blocks_are : (function (plain it)).blocks ≡ laid_out s starts
-  pub width : id_bytes it.version ≡ id_width s
-  pub grounded : Grounded s starts
-  pub few : length types ≤ 256
+  pub accepted : accept limits g.s.now ≡ got it end
+  pub types_are : g.types.now ≡ (function (plain it)).types
+  pub blocks_are : (function (plain it)).blocks ≡ blocks_of g
+  pub width : id_bytes it.version ≡ id_width g.s.now
+  pub grounded : Grounded g
+  pub few : length g.types.now ≤ 256
 
 -- a run that has not begun: with all answers of a list that reads, at the start, and no event told
-pub record Begun (s starts list : List ℕ) (t : Turn) : Type 0 where
+pub record Begun (g : Ground) (t : Turn) : Type 0 where
   pub told : List Answer
   pub end : ℕ
-  pub reads : answers list 0 ≡ got told end
-  pub those : told ≡ answers_left list t
-  pub stand : stand_of s t.spot ≡ land (laid_out s starts) 0
-  pub ready : Ready s starts list t
-  pub fits : t.spot.stop ≢ unfit_number
+  pub reads : answers g.list.now 0 ≡ got told end
+  pub those : told ≡ answers_left g.list.now t
+  pub stand : stand_of g.s.now t.spot ≡ land (blocks_of g) 0
+  pub ready : Ready g t
+  pub fits : t.spot.stop ≢ Unfit
   pub first : t.event ≡ 0
   pub waits : t.tells ≡ false
 

@@ -1,9 +1,5 @@
--- Five values, as the struct of the code and as the first of a list.
+-- Five values, as the first of a list.
 use Rattle.std.specs.Prelude.{ℕ, List, [], ◌∷◌, get_or}
-use Rattle.engine_answer.specs.declared.Five.{Five}
-
-abbrev pub five : Five → List ℕ
-five v = v.0 ∷ v.1 ∷ v.2 ∷ v.3 ∷ v.4 ∷ []
 
 -- 0 where the list has none
 abbrev pub first_five : List ℕ → List ℕ

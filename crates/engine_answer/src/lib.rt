@@ -1,77 +1,68 @@
-// The engine's answer in numbers, for those who hand it on: its number, its values with 0 where it has none, and how many it has.
+// The engine's answer in numbers, for those who hand it on.
 #![tactic(auto)]
 
-ghost use Rattle.std.specs.Prelude.{◌≡◌, ◌≤◌, length, get_or};
+ghost use Rattle.std.specs.Prelude.{◌≡◌, ◌≤◌, length, take};
 ghost use Rattle.running.specs.Engine.{ending_values, engine_answer};
-ghost use Rattle.engine_answer.specs.Five.{five, first_five};
+ghost use Rattle.engine_answer.specs.Five.{first_five};
 
-use running::{Ending, Ran};
+use running::{Ending, Run, RunError};
 
-// Five values: the bytes of the events and of the store, the steps, how the run ended, and the id of a division; of a refusal the first is
-// its offset; of 14 the first two are the bytes needed.
+// The answer's number, its values with 0 where it has none, and how many it has. The values are the bytes of the events and of the store, the
+// steps, how the run ended, and the id of a division; of a refusal the first is its offset; of 14 the first two are the bytes needed.
 #[derive(Clone, Copy)]
-pub struct Five(pub u64, pub u64, pub u64, pub u64, pub u64);
+pub struct Numbers {
+    pub number: u8,
+    pub values: [u64; 5],
+    pub count: usize,
+}
 
-// How a run ended: 0 for the end, 1 for ret, 2 for halt, 3 for unset, 4 for a division by zero, 5 for a limit that is spent.
-pub fn ending_number(how: Ending) -> u64
-    ensures { result ≡ get_or (ending_values how) 0 0 }
+// How a run ended: 0 for the end, 1 for ret, 2 for halt, 3 for unset, 4 for a division by zero, 5 for a limit that is spent; and the id of the
+// division, 0 where it ended otherwise.
+#[tactic(auto, unfolding(running::specs::Engine::ending_values))]
+pub fn ending_values(how: Ending) -> [u64; 2]
+    ensures { result ≡ ending_values how }
 {
     match how {
-        Ending::End => 0,
-        Ending::Ret => 1,
-        Ending::Halt => 2,
-        Ending::Unset => 3,
-        Ending::Division(_) => 4,
-        Ending::Limit => 5,
+        Ending::End => [0, 0],
+        Ending::Ret => [1, 0],
+        Ending::Halt => [2, 0],
+        Ending::Unset => [3, 0],
+        Ending::Division(id) => [4, id],
+        Ending::Limit => [5, 0],
     }
 }
 
-// The id of the division; 0 where it ended otherwise.
-pub fn ending_id(how: Ending) -> u64
-    ensures { result ≡ get_or (ending_values how) 1 0 }
-{
-    match how {
-        Ending::End => 0,
-        Ending::Ret => 0,
-        Ending::Halt => 0,
-        Ending::Unset => 0,
-        Ending::Division(id) => id,
-        Ending::Limit => 0,
-    }
-}
-
-// 0, or the number of a refusal.
-pub fn number(a: Ran) -> u8
-    ensures { result ≡ (engine_answer a).number }
+// The answer in numbers: 0 for a run that is done, or the number of a refusal.
+#[tactic(auto, unfolding(running::specs::Engine::engine_answer))]
+pub fn in_numbers(a: Result<Run, RunError>) -> Numbers
+    ensures number { result.number ≡ (engine_answer a).number }
+    ensures values { result.values ≡ first_five (engine_answer a).values }
+    ensures given { take result.count result.values ≡ (engine_answer a).values }
+    ensures count { (result.count ≡ length (engine_answer a).values) × (result.count ≤ 5) }
 {
     match a {
-        Ran::Done(_, _, _, _) => 0,
-        Ran::Refused(k, _) => checker::number_of(k),
-        Ran::Unfit => 13,
-        Ran::Room(_, _) => 14,
-    }
-}
-
-// The values that go with it.
-pub fn values(a: Ran) -> Five
-    ensures { five result ≡ first_five (engine_answer a).values }
-{
-    match a {
-        Ran::Done(e, l, k, how) => Five(e as u64, l as u64, k, ending_number(how), ending_id(how)),
-        Ran::Refused(_, o) => Five(o as u64, 0, 0, 0, 0),
-        Ran::Unfit => Five(0, 0, 0, 0, 0),
-        Ran::Room(e, l) => Five(e as u64, l as u64, 0, 0, 0),
-    }
-}
-
-// How many there are.
-pub fn count(a: Ran) -> usize
-    ensures { (result ≡ length (engine_answer a).values) × (result ≤ 5) }
-{
-    match a {
-        Ran::Done(_, _, _, _) => 5,
-        Ran::Refused(_, _) => 1,
-        Ran::Unfit => 1,
-        Ran::Room(_, _) => 2,
+        Ok(run) => {
+            let [how, id] = ending_values(run.ending);
+            Numbers {
+                number: 0,
+                values: [run.events as u64, run.store as u64, run.steps, how, id],
+                count: 5,
+            }
+        }
+        Err(RunError::Refused(f)) => Numbers {
+            number: checker::number_of(f.refusal),
+            values: [f.offset as u64, 0, 0, 0, 0],
+            count: 1,
+        },
+        Err(RunError::Unfit) => Numbers {
+            number: 13,
+            values: [0; 5],
+            count: 1,
+        },
+        Err(RunError::Room(events, store)) => Numbers {
+            number: 14,
+            values: [events as u64, store as u64, 0, 0, 0],
+            count: 2,
+        },
     }
 }

@@ -1,19 +1,18 @@
--- What a value is by the kind of its cell: which kinds are an int, a bool, a pointer.
+-- What a cell's value is by the cell's kind: which kinds are an int, a bool, a pointer; and what is held as an int or as a bool.
 use Prim.Native.Nat.{ℕ, zero, suc, ◌≤◌}
 use mathlib.Core.Path.{◌≡◌, refl, sym, ap, ◌∙◌}
 use mathlib.Core.Logic.{◌≢◌}
-use mathlib.Core.List.{List}
-use mathlib.Core.Bool.{Bool, true, false, cond}
-use mathlib.Core.Option.{none, some, none-ne-some}
+use mathlib.Core.Bool.{Bool, true, false, cond, not}
+use mathlib.Core.Option.{Option, none, some}
 use lib.Dec.{leb, eqb}
-use borrow.Author.Tests.{eqb-false}
-use Rattle.arith.specs.Value.{Val, pointer}
+use Rattle.std.proofs.Common.{None, Some}
+use Rattle.arith.specs.Value.{Val, int, float, literal, char, bool, pointer}
 use Rattle.arith.specs.Operation.{unset, as_int, as_bool, shift}
-use Rattle.record.specs.Record.{nm}
 use Rattle.running.specs.House.{held, nothing_byte}
 use Rattle.running.specs.Items.{plain_from}
-use Rattle.engine_cells.specs.Cells.{value_by, held_by, kind_in, word_in, offset_in, value_in, store_in}
-use Rattle.engine_cells.proofs.Cells.{by_plain}
+use Rattle.engine_cells.specs.declared.Cell.{Cell}
+use Rattle.engine_cells.specs.Cells.{value_by, held_by, cell_holds, int_held, bool_held, found}
+use Rattle.engine_cells.proofs.Store.{by_plain}
 
 -- ---- by kind
 module _ (word offset : ℕ) where
@@ -42,7 +41,7 @@ module _ (word offset : ℕ) where
   no_shift_plain (suc (suc (suc (suc t)))) k = refl
 
   module _ (kind : ℕ) where
-    pub no_int : kind ≢ 0 → as_int (value_by kind word offset) ≡ none
+    no_int : kind ≢ 0 → as_int (value_by kind word offset) ≡ none
     unfolding value_by as_int
     no_int n = go (leb kind held)
       where
@@ -50,7 +49,7 @@ module _ (word offset : ℕ) where
         go true = no_int_plain kind n
         go false = refl
 
-    pub no_bool : kind ≢ 1 → as_bool (value_by kind word offset) ≡ none
+    no_bool : kind ≢ 1 → as_bool (value_by kind word offset) ≡ none
     unfolding value_by as_bool
     no_bool n = go (leb kind held)
       where
@@ -61,30 +60,65 @@ module _ (word offset : ℕ) where
     pub no_shift : (k : ℕ) → kind ≤ held → shift (value_by kind word offset) k ≡ unset
     no_shift k h = ap (λ (v : Val). shift v k) (by_plain kind word offset h) ∙ no_shift_plain kind k
 
-    -- a cell that holds v
-    held_value : (v : Val) → held_by kind word offset ≡ some v → (kind ≢ nothing_byte) × (value_by kind word offset ≡ v)
-    unfolding held_by
-    held_value v e = go (eqb kind nothing_byte) refl e
-      where
-        go :
-            (b : Bool) → eqb kind nothing_byte ≡ b →
-            cond b none (some (value_by kind word offset)) ≡ some v →
-            (kind ≢ nothing_byte) × (value_by kind word offset ≡ v)
-        go true t p = absurd (none-ne-some v p)
-        go false t p = (eqb-false kind nothing_byte t, cc p)
+-- ---- what a cell holds as an int or as a bool
+module _ (c : Cell) where
+  pub int_cell : c.kind ≡ 0 → Some c.word ≡ int_held (cell_holds c)
+  unfolding int_held held_by value_by plain_from as_int
+  int_cell e = sym (ap (λ (k : ℕ). int_held (held_by k c.word c.offset)) e)
 
--- ---- what a name holds
-module _ (cells : List ℕ) (x : ℕ) (v : Val) (e : store_in cells (nm x) ≡ some v) where
-  pub in_value : (kind_in cells x ≢ nothing_byte) × (value_in cells x ≡ v)
-  unfolding store_in
-  in_value = held_value (word_in cells x) (offset_in cells x) (kind_in cells x) v e
+  pub no_int_cell : c.kind ≢ 0 → None ≡ int_held (cell_holds c)
+  unfolding int_held held_by
+  no_int_cell n = go (eqb c.kind nothing_byte)
+    where
+      go : (b : Bool) → None ≡ int_held (cond b none (some (value_by c.kind c.word c.offset)))
+      go true = refl
+      go false = sym (ap found (no_int c.word c.offset c.kind n))
 
-  pub not_int : kind_in cells x ≢ 0 → as_int v ≡ none
-  not_int n = ap as_int (sym in_value.1) ∙ no_int (word_in cells x) (offset_in cells x) (kind_in cells x) n
+  pub bool_cell : c.kind ≡ 1 → Some (not (eqb c.word 0)) ≡ bool_held (cell_holds c)
+  unfolding bool_held held_by value_by plain_from as_bool
+  bool_cell e = sym (ap (λ (k : ℕ). bool_held (held_by k c.word c.offset)) e)
 
-  pub not_bool : kind_in cells x ≢ 1 → as_bool v ≡ none
-  not_bool n = ap as_bool (sym in_value.1) ∙ no_bool (word_in cells x) (offset_in cells x) (kind_in cells x) n
+  pub no_bool_cell : c.kind ≢ 1 → None ≡ bool_held (cell_holds c)
+  unfolding bool_held held_by
+  no_bool_cell n = go (eqb c.kind nothing_byte)
+    where
+      go : (b : Bool) → None ≡ bool_held (cond b none (some (value_by c.kind c.word c.offset)))
+      go true = refl
+      go false = sym (ap found (no_bool c.word c.offset c.kind n))
 
-  pub not_pointer : (k : ℕ) → kind_in cells x ≤ held → shift v k ≡ unset
-  not_pointer k h =
-      ap (λ (w : Val). shift w k) (sym in_value.1) ∙ no_shift (word_in cells x) (offset_in cells x) (kind_in cells x) k h
+-- ---- what is held, by what it is as an int or as a bool
+pub is_int : (o : Option Val) (w : ℕ) → Some w ≡ int_held o → o ≡ some (int w)
+unfolding int_held as_int
+is_int none w e = absurd (cc e)
+is_int (some (int v)) w e = cc e
+is_int (some (float b)) w e = absurd (cc e)
+is_int (some (literal v)) w e = absurd (cc e)
+is_int (some (char k)) w e = absurd (cc e)
+is_int (some (bool b)) w e = absurd (cc e)
+is_int (some (pointer t b p)) w e = absurd (cc e)
+
+pub is_no_int : (o : Option Val) (v : Val) → None ≡ int_held o → o ≡ some v → as_int v ≡ none
+unfolding int_held
+is_no_int o v e p = none_found (as_int v) (e ∙ ap int_held p)
+  where
+    none_found : (n : Option ℕ) → None ≡ found n → n ≡ none
+    none_found none q = refl
+    none_found (some w) q = absurd (cc q)
+
+pub is_bool : (o : Option Val) (b : Bool) → Some b ≡ bool_held o → o ≡ some (bool b)
+unfolding bool_held as_bool
+is_bool none b e = absurd (cc e)
+is_bool (some (int v)) b e = absurd (cc e)
+is_bool (some (float w)) b e = absurd (cc e)
+is_bool (some (literal v)) b e = absurd (cc e)
+is_bool (some (char k)) b e = absurd (cc e)
+is_bool (some (bool a)) b e = cc e
+is_bool (some (pointer t v p)) b e = absurd (cc e)
+
+pub is_no_bool : (o : Option Val) (v : Val) → None ≡ bool_held o → o ≡ some v → as_bool v ≡ none
+unfolding bool_held
+is_no_bool o v e p = none_found (as_bool v) (e ∙ ap bool_held p)
+  where
+    none_found : (n : Option Bool) → None ≡ found n → n ≡ none
+    none_found none q = refl
+    none_found (some w) q = absurd (cc q)

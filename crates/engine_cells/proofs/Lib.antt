@@ -1,4 +1,4 @@
-pub mod Cells
+pub mod Store
 pub mod ByKind
 pub mod Values
 pub mod Rows

@@ -15,8 +15,10 @@ use Rattle.write_bytes.specs.Put.{put, Wrote}
 use Rattle.write_bytes.proofs.Wrote.{wrote_join, wrote_last, wrote_number}
 use Rattle.running.specs.House.{held, type_byte, words, value_bytes}
 use Rattle.running.specs.Items.{plain_from}
-use Rattle.engine_cells.specs.Cells.{value_by, kind_in, word_in, offset_in, value_in}
-use Rattle.engine_cells.proofs.Cells.{by_plain, by_pointer}
+use Rattle.engine_cells.specs.declared.Cell.{Cell}
+use Rattle.engine_cells.specs.declared.Cells.{Cells}
+use Rattle.engine_cells.specs.Cells.{value_by, cell_value, cell_in, value_in}
+use Rattle.engine_cells.proofs.Store.{by_plain, by_pointer}
 
 -- ---- the type byte
 plain_kind : (kind word : ℕ) → kind ≤ held → type_byte (plain_from kind word) ≡ kind
@@ -142,13 +144,10 @@ module _ {l m n : List ℕ} {i : ℕ} (kind word offset : ℕ) where
       (wrote_join (be 1 kind) (two ∷ []) (wrote_number 1 kind a)
       (wrote_last two (wrote_join (be 8 word) (be 8 offset ∷ []) first (wrote_last (be 8 offset) second))))
 
--- the value of a name, by the parts that were read
+-- the value of a name, whose cell was read
 pub value_in_wrote :
-    {l m : List ℕ} {i p : ℕ} (cells : List ℕ) (x : ℕ) {kind word offset : ℕ} →
-    kind ≡ kind_in cells x →
-    word ≡ word_in cells x →
-    offset ≡ offset_in cells x →
-    Wrote l m i p (value_bytes (value_by kind word offset)) →
+    {l m : List ℕ} {i p : ℕ} (cells : Cells) (x : ℕ) (c : Cell) →
+    c ≡ cell_in cells x →
+    Wrote l m i p (value_bytes (cell_value c)) →
     Wrote l m i p (value_bytes (value_in cells x))
-value_in_wrote {l} {m} {i} {p} cells x a b c w =
-    subst (λ (v : Val). Wrote l m i p (value_bytes v)) (λ j. value_by (a j) (b j) (c j)) w
+value_in_wrote {l} {m} {i} {p} cells x c e w = subst (λ (d : Cell). Wrote l m i p (value_bytes (cell_value d))) e w

@@ -1,7 +1,8 @@
--- The table of cells as a store: what each name holds by the three words of its cell, whatever these are.
-use Rattle.std.specs.Prelude.{ℕ, ◌+◌, ◌*◌, ◌%◌, List, map, cond, ◌≡◌, get_or, length, leb, eqb}
+-- The cells of the names as a store: what each name holds, whatever its cell is.
+use Rattle.std.specs.Prelude.{ℕ, List, map, cond, ◌≡◌, Option as CodeOption, None, Some, Bool, get_or, length, leb, eqb}
 use Rattle.std.proofs.Math.Option.{Option, none, some}
 use Rattle.arith.specs.Value.{Val, pointer}
+use Rattle.arith.specs.Operation.{as_int, as_bool}
 use Rattle.record.specs.declared.NameIx.{NameIx}
 use Rattle.record.specs.Write.{join}
 use Rattle.record.specs.Decode.{items, two_on, index_from}
@@ -10,12 +11,7 @@ use Rattle.write_bytes.specs.Put.{put}
 use Rattle.running.specs.House.{held, nothing_byte, value_bytes}
 use Rattle.running.specs.Items.{plain_from}
 use Rattle.engine_cells.specs.declared.Cell.{Cell}
-use Rattle.engine_cells.specs.declared.Size.{Size}
-use Rattle.engine_cells.specs.declared.Size.TheVariants.{Is, Unset}
-
--- as many cells as a record has names at most, of three words each
-abbrev pub most_words : ℕ
-most_words = 768
+use Rattle.engine_cells.specs.declared.Cells.{Cells}
 
 -- ---- a cell
 -- the value with this type byte: to 04 its word's, above it a pointer with base and offset
@@ -32,22 +28,41 @@ cell_value c = value_by c.kind c.word c.offset
 abbrev pub cell_holds : Cell → Option Val
 cell_holds c = held_by c.kind c.word c.offset
 
--- ---- a table of cells; past its end nothing is held
-module _ (cells : List ℕ) (x : ℕ) where
+abbrev pub no_cell : Cell
+no_cell = record { kind = nothing_byte; word = 0; offset = 0 }
+
+-- ---- the cells of the names; past the last nothing is held
+module _ (cells : Cells) (x : ℕ) where
+  abbrev pub cell_in : Cell
+  cell_in = get_or cells.cells x no_cell
+
   abbrev pub kind_in : ℕ
-  kind_in = get_or cells (3 * x) nothing_byte % 256
+  kind_in = cell_in.kind
 
   abbrev pub word_in : ℕ
-  word_in = get_or cells (3 * x + 1) nothing_byte
+  word_in = cell_in.word
 
   abbrev pub offset_in : ℕ
-  offset_in = get_or cells (3 * x + 2) nothing_byte
+  offset_in = cell_in.offset
 
   abbrev pub value_in : Val
-  value_in = value_by kind_in word_in offset_in
+  value_in = cell_value cell_in
 
-unfoldable pub store_in : List ℕ → Store
-store_in cells x = held_by (kind_in cells x.0) (word_in cells x.0) (offset_in cells x.0)
+unfoldable pub store_in : Cells → Store
+store_in cells x = cell_holds (cell_in cells x.0)
+
+-- ---- what is held, read at a type: a value of another type counts as not set, as in arith's operations
+abbrev pub found : {A : Type 0} → Option A → CodeOption A
+found none = None
+found (some a) = Some a
+
+unfoldable pub int_held : Option Val → CodeOption ℕ
+int_held none = None
+int_held (some v) = found (as_int v)
+
+unfoldable pub bool_held : Option Val → CodeOption Bool
+bool_held none = None
+bool_held (some v) = found (as_bool v)
 
 -- ---- a row of names
 -- the n names whose indexes stand from a place of the record on
@@ -59,9 +74,9 @@ abbrev pub values_bytes : List Val → List ℕ
 values_bytes vs = join (map value_bytes vs)
 
 -- how many they are, of values that were read
-unfoldable pub size_of : Option (List Val) → Size
-size_of none = Unset
-size_of (some vs) = Is (length (values_bytes vs))
+unfoldable pub size_of : Option (List Val) → CodeOption ℕ
+size_of none = None
+size_of (some vs) = Some (length (values_bytes vs))
 
 -- they are written from a place on, if they were read
 unfoldable pub RowWritten : List ℕ → List ℕ → ℕ → Option (List Val) → Type 0

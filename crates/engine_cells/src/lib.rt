@@ -1,34 +1,19 @@
-// The store of a running function: a table of cells, one for each name, and the values of a row of names, measured and written.
-// A cell is three words: the type byte of its value, FF for nothing; its word, or a pointer's base; a pointer's offset.
+// The store of a running function: a cell for each name, and the values of a row of names, measured and written.
 #![tactic(auto)]
 
-ghost use Rattle.std.specs.Prelude.{◌≡◌, cond, ℕ, ◌+◌, ◌*◌, ◌<◌, ◌≤◌, length, get_or, set, leb};
-ghost use Rattle.std.proofs.Math.Option.{some};
+ghost use Rattle.std.specs.Prelude.{◌≡◌, cond, ℕ, ◌+◌, ◌*◌, ◌<◌, ◌≤◌, leb};
+ghost use Rattle.std.proofs.Math.Option.{none, some};
 ghost use Rattle.arith.specs.Map.{upd};
+ghost use Rattle.arith.specs.Value.{int, bool};
+ghost use Rattle.record.specs.declared.NameIx.{NameIx};
 ghost use Rattle.record.specs.Record.{nm, NameIx-discrete};
 ghost use Rattle.record.specs.Write.{be};
 ghost use Rattle.machine.specs.Machine.{read_all};
-ghost use Rattle.running.specs.House.{held, nothing_byte, words, value_bytes};
+ghost use Rattle.running.specs.House.{held, words, value_bytes};
 ghost use Rattle.running.specs.Items.{plain_from};
 ghost use Rattle.read_fields.specs.Places.{places};
 ghost use Rattle.write_bytes.specs.Put.{Wrote};
-ghost use Rattle.engine_cells.specs.Cells.{cell_holds, kind_in, word_in, offset_in, value_in, store_in, row_from, size_of, RowWritten};
-ghost use Rattle.engine_cells.specs.declared.Size.TheVariants.{Is};
-
-// What a cell holds.
-#[derive(Clone, Copy)]
-pub struct Cell {
-    pub kind: u8,
-    pub word: u64,
-    pub offset: u64,
-}
-
-// The bytes of the values of a row of names; or one of them is not set.
-#[derive(Clone, Copy)]
-pub enum Size {
-    Is(usize),
-    Unset,
-}
+ghost use Rattle.engine_cells.specs.Cells.{cell_holds, cell_in, int_held, bool_held, value_in, store_in, row_from, size_of, RowWritten};
 
 // The type bytes of int and bool and of an int literal held by a float, which is the last without a pointer; and nothing.
 pub const INT: u8 = 0x00;
@@ -39,67 +24,47 @@ pub const HELD: u8 = 0x04;
 
 pub const NOTHING: u8 = 0xFF;
 
-// ---- cells
-// The word at a place of the table; past its end, that of nothing.
-fn word_at(cells: &[u64], i: usize) -> u64
-    ensures { result ≡ get_or cells.now i nothing_byte }
-{
-    if i < cells.len() { cells[i] } else { 255 }
+// As many names as a record can have.
+pub const NAMES: usize = 256;
+
+// What a name holds: the type byte of its value, or that of nothing; its word, or a pointer's base; and a pointer's offset.
+#[derive(Clone, Copy)]
+pub struct Cell {
+    pub kind: u8,
+    pub word: u64,
+    pub offset: u64,
 }
 
-// The type byte of what a name holds.
-pub fn kind_in(cells: &[u64], x: u64) -> u8
-    requires { x < 65536 }
-    ensures { result ≡ kind_in cells.now x }
-{
-    (word_at(cells, 3 * (x as usize)) % 256) as u8
-}
+impl Cell {
+    // A cell of an int.
+    pub fn int(word: u64) -> Cell
+        ensures { cell_holds result ≡ some (int word) }
+    {
+        Cell {
+            kind: INT,
+            word,
+            offset: 0,
+        }
+    }
 
-// Its word, or a pointer's base.
-pub fn word_in(cells: &[u64], x: u64) -> u64
-    requires { x < 65536 }
-    ensures { result ≡ word_in cells.now x }
-{
-    word_at(cells, 3 * (x as usize) + 1)
-}
-
-// A pointer's offset.
-pub fn offset_in(cells: &[u64], x: u64) -> u64
-    requires { x < 65536 }
-    ensures { result ≡ offset_in cells.now x }
-{
-    word_at(cells, 3 * (x as usize) + 2)
-}
-
-// A word put at a place of the table, where it has that place.
-fn store_word(cells: &mut [u64], i: usize, v: u64)
-    ensures { cells.new ≡ set cells.old i v }
-{
-    if i < cells.len() {
-        cells[i] = v;
+    // A cell of a bool.
+    pub fn bool(b: bool) -> Cell
+        ensures { cell_holds result ≡ some (bool b) }
+    {
+        Cell {
+            kind: BOOL,
+            word: u64::from(b),
+            offset: 0,
+        }
     }
 }
 
-// A name given a value that is no pointer.
-pub fn set_plain(cells: &mut [u64], x: u64, kind: u8, word: u64)
-    requires { (x < 65536) × ((3 * x + 2 < length cells.old) × (kind ≤ held)) }
-    ensures { store_in cells.new ≡ upd NameIx-discrete (store_in cells.old) (nm x) (some (plain_from kind word)) }
-{
-    let i = 3 * (x as usize);
-    store_word(cells, i, kind as u64);
-    store_word(cells, i + 1, word);
-}
-
-// A name given what a cell holds.
-pub fn set_cell(cells: &mut [u64], x: u64, c: Cell)
-    requires { (x < 65536) × (3 * x + 2 < length cells.old) }
-    ensures { store_in cells.new ≡ upd NameIx-discrete (store_in cells.old) (nm x) (cell_holds c) }
-{
-    let i = 3 * (x as usize);
-    store_word(cells, i, c.kind as u64);
-    store_word(cells, i + 1, c.word);
-    store_word(cells, i + 2, c.offset);
-}
+// The cell of a name that holds nothing.
+const NO_CELL: Cell = Cell {
+    kind: NOTHING,
+    word: 0,
+    offset: 0,
+};
 
 // ---- values
 // The bytes of a value with this type byte.
@@ -120,55 +85,118 @@ fn written_word(kind: u8, word: u64) -> u64
     }
 }
 
-// The value of a name: its type byte, its word, and a pointer's offset; the place behind it.
-pub fn put_value(cells: &[u64], x: u64, out: &mut [u8], at: usize) -> usize
-    requires { (x < 65536) × (at + 17 < places) }
-    ensures { Wrote out.old out.new at result (value_bytes (value_in cells.now x)) × (result ≤ at + 17) }
-{
-    let kind = kind_in(cells, x);
-    let word = word_in(cells, x);
-    write_bytes::put_u8(out, at, kind);
-    if kind <= HELD {
-        write_bytes::put_u64(out, at + 1, written_word(kind, word));
-        return at + 9;
-    }
-    write_bytes::put_u64(out, at + 1, word);
-    write_bytes::put_u64(out, at + 9, offset_in(cells, x));
-    at + 17
+// ---- the store
+// What the names of a function hold.
+#[derive(Clone, Copy)]
+pub struct Cells {
+    cells: [Cell; NAMES],
 }
 
-// ---- rows of names: n indexes of two bytes from a place of the record on
-// How many bytes their values have, if each is set.
-pub fn row_size(s: &[u8], at: usize, n: u64, cells: &[u64]) -> Size
-    requires { (at + 2 * n < places) × (n ≤ 255) }
-    ensures { (result ≡ size_of (read_all (store_in cells.now) (row_from s.now at n))) × ((k : ℕ) → result ≡ Is k → k ≤ 17 * n) }
-{
-    let mut p = at;
-    let mut left = n;
-    let mut size = 0;
-    while left > 0 {
-        let kind = kind_in(cells, read_fields::be16(s, p));
-        if kind == NOTHING {
-            return Size::Unset;
+impl Cells {
+    // No name is set.
+    pub fn new() -> Cells
+        ensures { (x : NameIx) → store_in result x ≡ none }
+    {
+        Cells {
+            cells: [NO_CELL; NAMES],
         }
-        size += value_size(kind);
-        p += 2;
-        left -= 1;
     }
-    Size::Is(size)
-}
 
-// Their values one after the other, if each is set.
-pub fn put_row(s: &[u8], at: usize, n: u64, cells: &[u64], out: &mut [u8], to: usize)
-    requires { (at + 2 * n < places) × ((n ≤ 255) × (to + 17 * n < places)) }
-    ensures { RowWritten out.old out.new to (read_all (store_in cells.now) (row_from s.now at n)) }
-{
-    let mut p = at;
-    let mut q = to;
-    let mut left = n;
-    while left > 0 {
-        q = put_value(cells, read_fields::be16(s, p), out, q);
-        p += 2;
-        left -= 1;
+    // What a name holds; past the last name, nothing.
+    pub fn get(&self, x: u64) -> Cell
+        ensures { result ≡ cell_in self.now x }
+    {
+        if x < NAMES as u64 {
+            self.cells[x as usize]
+        } else {
+            NO_CELL
+        }
+    }
+
+    // The int that a name holds.
+    pub fn int(&self, x: u64) -> Option<u64>
+        ensures { result ≡ int_held (store_in self.now (nm x)) }
+    {
+        let c = self.get(x);
+        if c.kind == INT { Some(c.word) } else { None }
+    }
+
+    // The bool that a name holds.
+    pub fn bool(&self, x: u64) -> Option<bool>
+        ensures { result ≡ bool_held (store_in self.now (nm x)) }
+    {
+        let c = self.get(x);
+        if c.kind == BOOL {
+            Some(c.word != 0)
+        } else {
+            None
+        }
+    }
+
+    // A name given what a cell holds.
+    pub fn set_cell(&mut self, x: u64, c: Cell)
+        requires { x < 256 }
+        ensures { store_in self.new ≡ upd NameIx-discrete (store_in self.old) (nm x) (cell_holds c) }
+    {
+        self.cells[x as usize] = c;
+    }
+
+    // A name given a value that is no pointer.
+    pub fn set_plain(&mut self, x: u64, kind: u8, word: u64)
+        requires { (x < 256) × (kind ≤ held) }
+        ensures { store_in self.new ≡ upd NameIx-discrete (store_in self.old) (nm x) (some (plain_from kind word)) }
+    {
+        self.set_cell(
+            x,
+            Cell {
+                kind,
+                word,
+                offset: 0,
+            },
+        );
+    }
+
+    // The value of a name: its type byte, its word, and a pointer's offset; the place behind it.
+    pub fn put_value(&self, x: u64, out: &mut [u8], at: usize) -> usize
+        requires { at + 17 < places }
+        ensures { Wrote out.old out.new at result (value_bytes (value_in self.now x)) × (result ≤ at + 17) }
+    {
+        let c = self.get(x);
+        write_bytes::put_u8(out, at, c.kind);
+        if c.kind <= HELD {
+            write_bytes::put_u64(out, at + 1, written_word(c.kind, c.word));
+            return at + 9;
+        }
+        write_bytes::put_u64(out, at + 1, c.word);
+        write_bytes::put_u64(out, at + 9, c.offset);
+        at + 17
+    }
+
+    // ---- rows of names: n indexes of two bytes from a place of the record on
+    // How many bytes their values have, if each is set.
+    pub fn row_size(&self, s: &[u8], at: usize, n: u64) -> Option<usize>
+        requires { (at + 2 * n < places) × (n ≤ 255) }
+        ensures { (result ≡ size_of (read_all (store_in self.now) (row_from s.now at n))) × ((k : ℕ) → result ≡ Some k → k ≤ 17 * n) }
+    {
+        let mut size = 0;
+        for i in 0..n as usize {
+            let kind = self.get(read_fields::be::<2>(s, at + 2 * i)).kind;
+            if kind == NOTHING {
+                return None;
+            }
+            size += value_size(kind);
+        }
+        Some(size)
+    }
+
+    // Their values one after the other, if each is set.
+    pub fn put_row(&self, s: &[u8], at: usize, n: u64, out: &mut [u8], to: usize)
+        requires { (at + 2 * n < places) × ((n ≤ 255) × (to + 17 * n < places)) }
+        ensures { RowWritten out.old out.new to (read_all (store_in self.now) (row_from s.now at n)) }
+    {
+        let mut q = to;
+        for i in 0..n as usize {
+            q = self.put_value(read_fields::be::<2>(s, at + 2 * i), out, q);
+        }
     }
 }

@@ -24,7 +24,7 @@ use Rattle.running.specs.Items.{plain_from, behind_type, answer_from, answer_end
 use Rattle.running.specs.Engine.{fits_value, fits_effect}
 use Rattle.engine_cells.specs.declared.Cell.{Cell}
 use Rattle.engine_cells.specs.Cells.{value_by, cell_value, cell_holds}
-use Rattle.engine_cells.proofs.Cells.{by_plain, by_pointer, held_some}
+use Rattle.engine_cells.proofs.Store.{by_plain, by_pointer, held_some}
 use Rattle.engine_house.specs.Reads.{Sure, end_by}
 use Rattle.engine_events.specs.Replies.{has_dest, reply, fits_reply, given, Known}
 

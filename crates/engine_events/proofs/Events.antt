@@ -22,8 +22,9 @@ use Rattle.write_bytes.specs.Put.{put, Wrote}
 use Rattle.write_bytes.proofs.Put.{put_out}
 use Rattle.write_bytes.proofs.Numbers as numbers
 use Rattle.write_bytes.proofs.Wrote.{wrote_join, wrote_last, wrote_number}
-use Rattle.engine_cells.specs.declared.Size.TheVariants.{Is, Unset}
-use Rattle.engine_cells.specs.Cells.{most_words, store_in, row_from, values_bytes, size_of, RowWritten}
+use Rattle.std.proofs.Common.{None, Some}
+use Rattle.engine_cells.specs.declared.Cells.{Cells}
+use Rattle.engine_cells.specs.Cells.{store_in, row_from, values_bytes, size_of, RowWritten}
 use Rattle.engine_quiet.specs.Spot.{code_at}
 use Rattle.engine_quiet.proofs.Operands.{id_is, code_is}
 use Rattle.engine_events.specs.Turn.{instr_at, count_place, args_at, Loud, EventPut, EventAs}
@@ -115,13 +116,13 @@ module _ {s : List ℕ} {at : ℕ} (h : Loud s at) where
 
     -- dest has a cell
     pub dest_cell :
-        (code : ℕ) (cells : List ℕ) → code ≡ num_at s (at + w) 1 → names_count s ≤ 256 → length cells ≡ most_words →
-        has_dest code ≡ true → 3 * num_at s (at + w + 1) 2 + 2 < length cells
-    dest_cell code cells ec n l e =
+        (code : ℕ) → code ≡ num_at s (at + w) 1 → names_count s ≤ 256 →
+        has_dest code ≡ true → num_at s (at + w + 1) 2 < 256
+    dest_cell code ec n e =
         let ko : code ≡ code_at s at = ec ∙ ap (λ (k : ℕ). num_at s (at + k) 1) ew in
         let d : num_at s (at + id_width s + 1) 2 < names_count s = dest_named h (ap has_dest (sym ko) ∙ e) in
         let f : num_at s (at + w + 1) 2 ≡ num_at s (at + id_width s + 1) 2 = ap (λ (k : ℕ). num_at s (at + k + 1) 2) ew in
-        omega (arith, d, f, n, l)
+        omega (arith, d, f, n)
 
   -- row: where the argument count n stands; callee: what callee_at gives
   module _ (row n : ℕ) (er : row ≡ count_place s at) (en : n ≡ num_at s row 1) where
@@ -132,7 +133,7 @@ module _ {s : List ℕ} {at : ℕ} (h : Loud s at) where
     args_by = λ i. row_from s (er i + 1) (count_is i)
 
     pub event_put :
-        (cells l : List ℕ) {a b c d : List ℕ} (m : List ℕ) (w to id code callee : ℕ) →
+        (cells : Cells) (l : List ℕ) {a b c d : List ℕ} (m : List ℕ) (w to id code callee : ℕ) →
         w ≡ id_width s →
         id ≡ num_at s at w →
         code ≡ num_at s (at + w) 1 →
@@ -187,11 +188,11 @@ module _ (s : List ℕ) (at : ℕ) (l : List ℕ) (to : ℕ) where
   -- size: the bytes of the values
   pub event_told :
       (m : List ℕ) (o : Option (List Val)) (w size n : ℕ) →
-      w ≡ id_width s → Is size ≡ size_of o → size ≤ 17 * n → n ≤ 8 → w ≤ 8 →
+      w ≡ id_width s → Some size ≡ size_of o → size ≤ 17 * n → n ≤ 8 → w ≤ 8 →
       EventPut s at l m to o →
-      EventAs s at l m to (Is (to + w + 4 + size)) o
+      EventAs s at l m to (Some (to + w + 4 + size)) o
   unfolding EventAs EventPut size_of
-  event_told m none w size n ew e k j b p = clash (cc e)
+  event_told m none w size n ew e k j b p = absurd (cc e)
   event_told m (some vs) w size n ew e k j b p =
       let f : size ≡ length (values_bytes vs) = cc e in
       record {
@@ -201,7 +202,7 @@ module _ (s : List ℕ) (at : ℕ) (l : List ℕ) (to : ℕ) where
         near = omega (arith, k, j, b);
       }
 
-  pub event_unset : (o : Option (List Val)) → Unset ≡ size_of o → EventAs s at l l to Unset o
+  pub event_unset : (o : Option (List Val)) → None ≡ size_of o → EventAs s at l l to None o
   unfolding EventAs size_of
   event_unset none e = (refl, refl)
-  event_unset (some vs) e = clash (cc e)
+  event_unset (some vs) e = absurd (cc e)

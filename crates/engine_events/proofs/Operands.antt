@@ -19,6 +19,7 @@ use Rattle.record.specs.Decode.{index_from, id_width, names_count}
 use Rattle.record.proofs.Tests.{and_left, and_right, or_second}
 use Rattle.record.proofs.Form.{all_below, at_known}
 use Rattle.engine_cells.specs.Cells.{row_from}
+use Rattle.engine_quiet.specs.declared.Ground.{Ground}
 use Rattle.engine_quiet.specs.declared.Spot.{Spot}
 use Rattle.engine_quiet.specs.Spot.{Standing, quiet, code_at}
 use Rattle.engine_quiet.proofs.Bodies.{first_passes, first_inside}
@@ -175,11 +176,10 @@ module _ {s : List ℕ} {at : ℕ} (h : Loud s at) where
       (λ i. form_by (shape.code_is w s at i) (args_are i))
 
 -- ---- the instruction at which a run stands
-pub stands_loud :
-    (s starts : List ℕ) (p : Spot) → Standing s starts p → 0 < p.left → quiet (code_at s p.at) ≡ false → Loud s p.at
-stands_loud s starts p st left q =
+pub stands_loud : {g : Ground} {p : Spot} → Standing g p → 0 < p.left → quiet (code_at g.s.now p.at) ≡ false → Loud g.s.now p.at
+stands_loud {g} {p} st left q =
     record {
-      passes = first_passes s p.at p.left st.sound left;
+      passes = first_passes g.s.now p.at p.left st.sound left;
       loud = q;
-      inside = first_inside s p.at p.left st.sound left;
+      inside = first_inside g.s.now p.at p.left st.sound left;
     }

@@ -15,12 +15,16 @@ use Rattle.machine.specs.Machine.{Store, Answer, halt, Event, goes, tick}
 use Rattle.running.specs.House.{halt_byte}
 use Rattle.running.specs.Items.{answer_from, answer_end}
 use Rattle.running.specs.Steps.{first_of, land, moved, shifted}
+use Rattle.engine_cells.specs.declared.Cells.{Cells}
 use Rattle.engine_cells.specs.Cells.{store_in}
 use Rattle.engine_house.specs.Reads.{Sure, end_by}
 use Rattle.engine_quiet.specs.declared.Spot.{Spot}
-use Rattle.engine_quiet.specs.Spot.{stop_by, unfit_number, laid_out, body_at, code_at, stand_of, Landed}
+use Rattle.engine_quiet.specs.declared.Ground.{Ground}
+use Rattle.engine_quiet.specs.declared.Over.{Over}
+use Rattle.engine_quiet.specs.declared.Over.TheVariants.{Halt, Unfit}
+use Rattle.engine_quiet.specs.Spot.{stop_by, body_at, blocks_of, code_at, stand_of, Landed}
 use Rattle.engine_events.specs.declared.Turn.{Turn}
-use Rattle.engine_events.specs.Turn.{most_event, most_answer, far, answers_left, config_in, instr_at, Ready, Loud}
+use Rattle.engine_events.specs.Turn.{most_event, most_answer, far, answers_left, config_in, instr_at, Ready, Going, Loud}
 use Rattle.engine_events.specs.Replies.{has_dest, reply, fits_reply, given, Answered}
 use Rattle.engine_events.proofs.Operands.{dest_is}
 use Rattle.engine_events.proofs.Answers.{answer_halt, not_halt, end_is, answers_none, answers_more, sure_rest, fits_first, fits_none, fits_halt, reply_none, reply_halt, behind_answer, reply_goes}
@@ -44,8 +48,23 @@ ahead : (b : Bool) (n : ℕ) → 0 < n → cond b 0 (suc (n - 1)) ≤ n
 ahead true n h = omega arith
 ahead false n h = omega arith
 
-module _ (s types starts list before : List ℕ) (event : ℕ) (t : Turn)
-    (ready : Ready s starts list t) (left : 0 < t.spot.left) (loud : Loud s t.spot.at) (room : event + most_event * t.answers ≤ far) where
+module _ (g : Ground) (before : Cells) (event : ℕ) (t : Turn)
+    (going : Going g t) (loud : Loud g.s.now t.spot.at) (room : event + most_event * t.answers ≤ far) where
+  abbrev s : List ℕ
+  s = g.s.now
+
+  abbrev types : List ℕ
+  types = g.types.now
+
+  abbrev list : List ℕ
+  list = g.list.now
+
+  abbrev ready : Ready g t
+  ready = going.ready
+
+  abbrev left : 0 < t.spot.left
+  left = going.some
+
   abbrev at : ℕ
   at = t.spot.at
 
@@ -56,24 +75,24 @@ module _ (s types starts list before : List ℕ) (event : ℕ) (t : Turn)
   type = type_in types (instr_at s at).dest
 
   -- no answer is left
-  pub answered_none : t.answers ≡ 0 → Answered s types starts list before before event t (over_turn 2 event t.answer t.answers t)
+  pub answered_none : t.answers ≡ 0 → Answered g before before event t (over_turn Halt event t.answer t.answers t)
   unfolding stop_by
   answered_none z =
       let none_left = answers_none list t.answer t.answers z in
       record {
-        ready = ready_over s starts list 2 event t.answer t.answers t ready.standing left ready.sure ready.answers (omega (arith, room));
+        ready = ready_over g Halt event t.answer t.answers t ready.standing left ready.sure ready.answers (omega (arith, room));
         more = refl;
         tells = refl;
         told = refl;
-        unfit = λ e. absurd (omega (arith, e));
+        unfit = λ e. absurd (cc e);
         fit = λ n.
             record {
               fits = fits_none dest type (answers_left list t) none_left;
               goes = λ e.
-                  ap (moved (laid_out s starts) t.spot.block (body_at s (instr_end (id_width s) s at) (t.spot.left - 1)))
-                  (reply_none dest type (instr_at s at) (tick (config_in s list before t).mach) e (answers_left list t) none_left) ∙
-                  over_told s list before (laid_out s starts) t.spot.block (body_at s (instr_end (id_width s) s at) (t.spot.left - 1))
-                  2 event t.answer t.answers t e;
+                  ap (moved (blocks_of g) t.spot.block (body_at s (instr_end (id_width s) s at) (t.spot.left - 1)))
+                  (reply_none dest type (instr_at s at) (tick (config_in g before t).mach) e (answers_left list t) none_left) ∙
+                  over_told g before t.spot.block (body_at s (instr_end (id_width s) s at) (t.spot.left - 1))
+                  Halt event t.answer t.answers t e;
             };
       }
 
@@ -97,28 +116,28 @@ module _ (s types starts list before : List ℕ) (event : ℕ) (t : Turn)
     within : k + most_answer * (t.answers - 1) ≤ far
     within = omega (arith, near, some_left, ready.answers)
 
-    over_ready : (stop : ℕ) → Ready s starts list (over_turn stop event k (t.answers - 1) t)
-    over_ready stop = ready_over s starts list stop event k (t.answers - 1) t ready.standing left sure_left within (omega (arith, room))
+    over_ready : (stop : Over) → Ready g (over_turn stop event k (t.answers - 1) t)
+    over_ready stop = ready_over g stop event k (t.answers - 1) t ready.standing left sure_left within (omega (arith, room))
 
-    pub answered_halt : kind ≡ halt_byte → Answered s types starts list before before event t (over_turn 2 event k (t.answers - 1) t)
+    pub answered_halt : kind ≡ halt_byte → Answered g before before event t (over_turn Halt event k (t.answers - 1) t)
     unfolding stop_by
     answered_halt h =
         let halts : answers_left list t ≡ halt ∷ rest =
         left_are ∙ ap (λ (x : Answer). x ∷ rest) (answer_halt list t.answer (sym ek ∙ h)) in
         record {
-          ready = over_ready 2;
+          ready = over_ready Halt;
           more = refl;
           tells = refl;
           told = refl;
-          unfit = λ e. absurd (omega (arith, e));
+          unfit = λ e. absurd (cc e);
           fit = λ n.
               record {
                 fits = fits_halt dest type (answers_left list t) rest halts;
                 goes = λ e.
-                    ap (moved (laid_out s starts) t.spot.block (body_at s (instr_end (id_width s) s at) (t.spot.left - 1)))
-                    (reply_halt dest type (instr_at s at) (tick (config_in s list before t).mach) e (answers_left list t) rest halts) ∙
-                    over_told s list before (laid_out s starts) t.spot.block (body_at s (instr_end (id_width s) s at) (t.spot.left - 1))
-                    2 event k (t.answers - 1) t e;
+                    ap (moved (blocks_of g) t.spot.block (body_at s (instr_end (id_width s) s at) (t.spot.left - 1)))
+                    (reply_halt dest type (instr_at s at) (tick (config_in g before t).mach) e (answers_left list t) rest halts) ∙
+                    over_told g before t.spot.block (body_at s (instr_end (id_width s) s at) (t.spot.left - 1))
+                    Halt event k (t.answers - 1) t e;
               };
         }
 
@@ -136,10 +155,10 @@ module _ (s types starts list before : List ℕ) (event : ℕ) (t : Turn)
           sym eb
 
       pub answered_unfit :
-          (after : List ℕ) → b ≡ false → Answered s types starts list before after event t (over_turn unfit_number event k (t.answers - 1) t)
+          (after : Cells) → b ≡ false → Answered g before after event t (over_turn Unfit event k (t.answers - 1) t)
       answered_unfit after f =
           record {
-            ready = over_ready unfit_number;
+            ready = over_ready Unfit;
             more = refl;
             tells = refl;
             told = refl;
@@ -147,11 +166,11 @@ module _ (s types starts list before : List ℕ) (event : ℕ) (t : Turn)
             fit = λ n. absurd (n refl);
           }
 
-      module _ (after : List ℕ) (p : Spot) (next : ℕ) (f : b ≡ true) (h : kind ≢ halt_byte) (en : next ≡ instr_end (id_width s) s at)
+      module _ (after : Cells) (p : Spot) (next : ℕ) (f : b ≡ true) (h : kind ≢ halt_byte) (en : next ≡ instr_end (id_width s) s at)
           (store : b ≡ true → store_in after ≡ given (has_dest code) (answer_from list t.answer) (store_in before) (index_from s (at + w + 1)))
           (landed :
-          Landed s starts
-          (first_of t.spot.block (body_at s next (t.spot.left - 1)) (land (laid_out s starts) (t.spot.block + 1))) p) where
+          Landed g
+          (first_of t.spot.block (body_at s next (t.spot.left - 1)) (land (blocks_of g) (t.spot.block + 1))) p) where
         abbrev gone : ℕ → ℕ → Turn
         gone answer answers =
             record { spot = p; more = t.more; answer = answer; answers = answers; event = event; tells = t.tells }
@@ -162,16 +181,16 @@ module _ (s types starts list before : List ℕ) (event : ℕ) (t : Turn)
             sym (λ i. given (has_dest (code_here i)) (answer_from list t.answer) (store_in before) (index_from s (at + ew i + 1))) ∙
             sym (store f)
 
-        there : stand_of s p ≡ first_of t.spot.block (body_at s (instr_end (id_width s) s at) (t.spot.left - 1)) (land (laid_out s starts) (suc t.spot.block))
+        there : stand_of s p ≡ first_of t.spot.block (body_at s (instr_end (id_width s) s at) (t.spot.left - 1)) (land (blocks_of g) (suc t.spot.block))
         there =
             landed.stand ∙
-            (λ i. first_of t.spot.block (body_at s (en i) (t.spot.left - 1)) (land (laid_out s starts) (add-one t.spot.block i)))
+            (λ i. first_of t.spot.block (body_at s (en i) (t.spot.left - 1)) (land (blocks_of g) (add-one t.spot.block i)))
 
         went :
             (e : Event) →
-            moved (laid_out s starts) t.spot.block (body_at s (instr_end (id_width s) s at) (t.spot.left - 1))
-            (goes (behind_answer dest type (instr_at s at) (tick (config_in s list before t).mach) e (answer_from list t.answer) rest)) ≡
-            shifted (e ∷ []) 1 (config_in s list after (gone k (t.answers - 1)))
+            moved (blocks_of g) t.spot.block (body_at s (instr_end (id_width s) s at) (t.spot.left - 1))
+            (goes (behind_answer dest type (instr_at s at) (tick (config_in g before t).mach) e (answer_from list t.answer) rest)) ≡
+            shifted (e ∷ []) 1 (config_in g after (gone k (t.answers - 1)))
         unfolding tick
         went e =
             λ i.
@@ -180,7 +199,7 @@ module _ (s types starts list before : List ℕ) (event : ℕ) (t : Turn)
               mach = record { store = stored i; answers = rest; events = e ∷ []; steps = 1 };
             }
 
-        pub answered_goes : Answered s types starts list before after event t (gone k (t.answers - 1))
+        pub answered_goes : Answered g before after event t (gone k (t.answers - 1))
         answered_goes =
             record {
               ready =
@@ -198,9 +217,9 @@ module _ (s types starts list before : List ℕ) (event : ℕ) (t : Turn)
                   record {
                     fits = said ∙ f;
                     goes = λ e.
-                        ap (moved (laid_out s starts) t.spot.block (body_at s (instr_end (id_width s) s at) (t.spot.left - 1)))
-                        (ap (reply dest type (instr_at s at) (tick (config_in s list before t).mach) e) left_are ∙
-                        reply_goes dest type (instr_at s at) (tick (config_in s list before t).mach) e (answer_from list t.answer) rest
+                        ap (moved (blocks_of g) t.spot.block (body_at s (instr_end (id_width s) s at) (t.spot.left - 1)))
+                        (ap (reply dest type (instr_at s at) (tick (config_in g before t).mach) e) left_are ∙
+                        reply_goes dest type (instr_at s at) (tick (config_in g before t).mach) e (answer_from list t.answer) rest
                         (sym (fits_first dest type (answer_from list t.answer) rest) ∙ ap (fits_reply dest type) (sym left_are) ∙ said ∙ f)
                         (not_halt list t.answer (λ q. h (ek ∙ q)))) ∙
                         went e;

@@ -9,7 +9,6 @@ use native.Mathlib.Omega.{arith}
 use lib.Dec.{eqb}
 use borrow.Author.Tests.{ne_eqb}
 use Rattle.arith.specs.Value.{Val}
-use Rattle.arith.proofs.Clash.{clash}
 use Rattle.record.specs.declared.NameIx.{NameIx}
 use Rattle.record.specs.Record.{Instr, type_in}
 use Rattle.record.specs.Form.{Form, new, effect, return}
@@ -21,13 +20,15 @@ use Rattle.running.specs.Steps.{moved, take_step}
 use Rattle.running.specs.Engine.{fits_new, fits_told, fits_form, fits_at}
 use Rattle.write_bytes.specs.Put.{Wrote}
 use Rattle.write_bytes.proofs.Wrote.{wrote_nothing, wrote_last}
-use Rattle.engine_cells.specs.declared.Size.{Size}
-use Rattle.engine_cells.specs.declared.Size.TheVariants.{Is, Unset}
+use Rattle.std.proofs.Common.{Option as CodeOption, None, Some}
+use Rattle.engine_cells.specs.declared.Cells.{Cells}
 use Rattle.engine_cells.specs.Cells.{store_in}
-use Rattle.engine_quiet.specs.Spot.{stop_by, laid_out, told_types, body_at, stand_of, code_at}
+use Rattle.engine_quiet.specs.declared.Ground.{Ground}
+use Rattle.engine_quiet.specs.declared.Over.TheVariants.{Ret, Unset}
+use Rattle.engine_quiet.specs.Spot.{stop_by, told_types, blocks_of, body_at, stand_of, code_at}
 use Rattle.engine_quiet.proofs.Moved.{fits_here, takes_here}
 use Rattle.engine_events.specs.declared.Turn.{Turn}
-use Rattle.engine_events.specs.Turn.{most_event, far, config_in, events_ahead, instr_at, args_at, Ready, Loud, EventAs, Stepped}
+use Rattle.engine_events.specs.Turn.{most_event, far, config_in, events_ahead, instr_at, args_at, Ready, Going, Loud, EventAs, Stepped}
 use Rattle.engine_events.specs.Replies.{has_dest, reply, fits_reply, Answered}
 use Rattle.engine_events.proofs.Operands.{form_by, form_is}
 use Rattle.engine_events.proofs.Over.{over_turn, ready_over, over_told, over_silent}
@@ -41,12 +42,12 @@ pub record Told (s : List ℕ) (at : ℕ) (l m : List ℕ) (to place : ℕ) (o :
   pub near : place ≤ to + most_event
 
 pub told_is :
-    (s : List ℕ) (at : ℕ) (l m : List ℕ) (to place : ℕ) (r : Size) (o : Option (List Val)) →
-    r ≡ Is place → EventAs s at l m to r o → Told s at l m to place o
+    (s : List ℕ) (at : ℕ) (l m : List ℕ) (to place : ℕ) (r : CodeOption ℕ) (o : Option (List Val)) →
+    r ≡ Some place → EventAs s at l m to r o → Told s at l m to place o
 unfolding EventAs
-told_is s at l m to place r none e h = let d : Unset ≡ Is place = sym h.0 ∙ e in clash (cc d)
+told_is s at l m to place r none e h = let d : None ≡ Some place = sym h.0 ∙ e in absurd (cc d)
 told_is s at l m to place r (some vs) e h =
-    let d : Is h.place ≡ Is place = sym h.is ∙ e in
+    let d : Some h.place ≡ Some place = sym h.is ∙ e in
     let f : h.place ≡ place = cc d in
     record {
       values = vs;
@@ -56,11 +57,11 @@ told_is s at l m to place r (some vs) e h =
     }
 
 pub told_not :
-    (s : List ℕ) (at : ℕ) (l m : List ℕ) (to : ℕ) (r : Size) (o : Option (List Val)) →
-    r ≡ Unset → EventAs s at l m to r o → (o ≡ none) × (m ≡ l)
+    (s : List ℕ) (at : ℕ) (l m : List ℕ) (to : ℕ) (r : CodeOption ℕ) (o : Option (List Val)) →
+    r ≡ None → EventAs s at l m to r o → (o ≡ none) × (m ≡ l)
 unfolding EventAs
 told_not s at l m to r none e h = (refl, h.1)
-told_not s at l m to r (some vs) e h = let d : Is h.place ≡ Unset = sym h.is ∙ e in clash (cc d)
+told_not s at l m to r (some vs) e h = let d : Some h.place ≡ None = sym h.is ∙ e in absurd (cc d)
 
 -- ---- the step by its form
 module _ (types : List ℕ) (i : Instr) (m : Mach) (args : List NameIx) where
@@ -102,8 +103,19 @@ module _ (types : List ℕ) (i : Instr) (m : Mach) (args : List NameIx) where
     fits_is false = ap (fits_told m.answers) e
 
 -- ---- the step of a run
-module _ (s types starts list cells l : List ℕ) (t : Turn)
-    (ready : Ready s starts list t) (left : 0 < t.spot.left) (loud : Loud s t.spot.at) where
+module _ (g : Ground) (cells : Cells) (l : List ℕ) (t : Turn) (going : Going g t) (loud : Loud g.s.now t.spot.at) where
+  abbrev s : List ℕ
+  s = g.s.now
+
+  abbrev types : List ℕ
+  types = g.types.now
+
+  abbrev ready : Ready g t
+  ready = going.ready
+
+  abbrev left : 0 < t.spot.left
+  left = going.some
+
   abbrev at : ℕ
   at = t.spot.at
 
@@ -111,7 +123,7 @@ module _ (s types starts list cells l : List ℕ) (t : Turn)
   i = instr_at s at
 
   abbrev mach : Mach
-  mach = (config_in s list cells t).mach
+  mach = (config_in g cells t).mach
 
   abbrev rest : List Instr
   rest = body_at s (instr_end (id_width s) s at) (t.spot.left - 1)
@@ -120,16 +132,16 @@ module _ (s types starts list cells l : List ℕ) (t : Turn)
   values = read_all (store_in cells) (args_at s at)
 
   takes_is :
-      take_step (told_types types) (laid_out s starts) (config_in s list cells t) ≡
-      moved (laid_out s starts) t.spot.block rest (act (told_types types) i (tick mach) (form_by (code_at s at) (args_at s at)))
+      take_step (told_types types) (blocks_of g) (config_in g cells t) ≡
+      moved (blocks_of g) t.spot.block rest (act (told_types types) i (tick mach) (form_by (code_at s at) (args_at s at)))
   takes_is =
-      takes_here s t.spot left (told_types types) (laid_out s starts) mach ∙
-      ap (λ (f : Form). moved (laid_out s starts) t.spot.block rest (act (told_types types) i (tick mach) f)) (form_is loud (type_in types))
+      takes_here s t.spot left (told_types types) (blocks_of g) mach ∙
+      ap (λ (f : Form). moved (blocks_of g) t.spot.block rest (act (told_types types) i (tick mach) f)) (form_is loud (type_in types))
 
   fits_by :
       fits_at (told_types types) mach (stand_of s t.spot) ≡ fits_form (told_types types) i mach (form_by (code_at s at) (args_at s at))
   fits_by =
-      fits_here s t.spot left (told_types types) (laid_out s starts) mach ∙
+      fits_here s t.spot left (told_types types) (blocks_of g) mach ∙
       ap (fits_form (told_types types) i mach) (form_is loud (type_in types))
 
   room : t.event + most_event * suc t.answers ≤ far
@@ -139,23 +151,23 @@ module _ (s types starts list cells l : List ℕ) (t : Turn)
       subst (λ (n : ℕ). t.event + most_event * n ≤ far) e ready.events
 
   -- an argument is not set
-  pub step_unset : values ≡ none → Stepped s types starts list cells cells l l t (over_turn 3 t.event t.answer t.answers t)
+  pub step_unset : values ≡ none → Stepped g cells cells l l t (over_turn Unset t.event t.answer t.answers t)
   unfolding stop_by events_bytes join
   step_unset e =
       record {
-        ready = ready_over s starts list 3 t.event t.answer t.answers t ready.standing left ready.sure ready.answers (omega (arith, room));
+        ready = ready_over g Unset t.event t.answer t.answers t ready.standing left ready.sure ready.answers (omega (arith, room));
         more = refl;
         tells = refl;
-        unfit = λ z. absurd (omega (arith, z));
+        unfit = λ z. absurd (cc z);
         fit = λ n.
             record {
               added = [];
               fits = fits_by ∙ fits_unset types i mach (args_at s at) (has_dest (code_at s at)) (eqb (code_at s at) 66) e;
               takes =
                   takes_is ∙
-                  ap (moved (laid_out s starts) t.spot.block rest)
+                  ap (moved (blocks_of g) t.spot.block rest)
                   (act_unset types i mach (args_at s at) (has_dest (code_at s at)) (eqb (code_at s at) 66) e) ∙
-                  over_silent s list cells (laid_out s starts) t.spot.block rest 3 t.event t.answer t.answers t refl;
+                  over_silent g cells t.spot.block rest Unset t.event t.answer t.answers t refl;
               wrote = wrote_nothing;
             };
       }
@@ -172,16 +184,16 @@ module _ (s types starts list cells l : List ℕ) (t : Turn)
     room_left = omega (arith, room, told.near)
 
     -- ret
-    pub step_ret : code_at s at ≡ 66 → Stepped s types starts list cells cells l m t (over_turn 1 place t.answer t.answers t)
+    pub step_ret : code_at s at ≡ 66 → Stepped g cells cells l m t (over_turn Ret place t.answer t.answers t)
     unfolding stop_by
     step_ret c =
         let f : form_by (code_at s at) (args_at s at) ≡ return (args_at s at) = ap (λ (k : ℕ). form_by k (args_at s at)) c in
         record {
           ready =
-              ready_over s starts list 1 place t.answer t.answers t ready.standing left ready.sure ready.answers (omega (arith, room_left));
+              ready_over g Ret place t.answer t.answers t ready.standing left ready.sure ready.answers (omega (arith, room_left));
           more = refl;
           tells = refl;
-          unfit = λ z. absurd (omega (arith, z));
+          unfit = λ z. absurd (cc z);
           fit = λ n.
               record {
                 added = event ∷ [];
@@ -190,17 +202,17 @@ module _ (s types starts list cells l : List ℕ) (t : Turn)
                     fits_ret types i mach (args_at s at) told.values told.read;
                 takes =
                     takes_is ∙
-                    ap (λ (g : Form). moved (laid_out s starts) t.spot.block rest (act (told_types types) i (tick mach) g)) f ∙
-                    ap (moved (laid_out s starts) t.spot.block rest) (act_ret types i mach (args_at s at) told.values told.read) ∙
-                    over_told s list cells (laid_out s starts) t.spot.block rest 1 place t.answer t.answers t event;
+                    ap (λ (u : Form). moved (blocks_of g) t.spot.block rest (act (told_types types) i (tick mach) u)) f ∙
+                    ap (moved (blocks_of g) t.spot.block rest) (act_ret types i mach (args_at s at) told.values told.read) ∙
+                    over_told g cells t.spot.block rest Ret place t.answer t.answers t event;
                 wrote = wrote_one;
               };
         }
 
     -- the others, by what the answer comes to
     pub step_told :
-        (after : List ℕ) (r : Turn) → code_at s at ≢ 66 → Answered s types starts list cells after place t r →
-        Stepped s types starts list cells after l m t r
+        (after : Cells) (r : Turn) → code_at s at ≢ 66 → Answered g cells after place t r →
+        Stepped g cells after l m t r
     step_told after r c a =
         let f : form_by (code_at s at) (args_at s at) ≡ cond (has_dest (code_at s at)) (new (args_at s at)) (effect (args_at s at)) =
         ap (λ (b : Bool). cond (has_dest (code_at s at)) (new (args_at s at)) (cond b (return (args_at s at)) (effect (args_at s at))))
@@ -218,8 +230,8 @@ module _ (s types starts list cells l : List ℕ) (t : Turn)
                 fits = fits ∙ (a.fit n).fits;
                 takes =
                     takes_is ∙
-                    ap (λ (g : Form). moved (laid_out s starts) t.spot.block rest (act (told_types types) i (tick mach) g)) f ∙
-                    ap (moved (laid_out s starts) t.spot.block rest)
+                    ap (λ (u : Form). moved (blocks_of g) t.spot.block rest (act (told_types types) i (tick mach) u)) f ∙
+                    ap (moved (blocks_of g) t.spot.block rest)
                     (act_told types i mach (args_at s at) told.values told.read (has_dest (code_at s at))) ∙
                     (a.fit n).goes event;
                 wrote = subst (λ (p : ℕ). Wrote l m t.event p (events_bytes (id_width s) (event ∷ []))) (sym a.told) wrote_one;

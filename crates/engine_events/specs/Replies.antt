@@ -11,7 +11,10 @@ use Rattle.running.specs.House.{go_on_byte, halt_byte, value_type}
 use Rattle.running.specs.Steps.{Config, moved, shifted}
 use Rattle.running.specs.Engine.{fits_value, fits_effect}
 use Rattle.read_fields.specs.Places.{places}
-use Rattle.engine_quiet.specs.Spot.{unfit_number, laid_out, body_at, code_at}
+use Rattle.engine_cells.specs.declared.Cells.{Cells}
+use Rattle.engine_quiet.specs.declared.Ground.{Ground}
+use Rattle.engine_quiet.specs.declared.Over.TheVariants.{Unfit}
+use Rattle.engine_quiet.specs.Spot.{body_at, blocks_of, code_at}
 use Rattle.engine_events.specs.declared.Turn.{Turn}
 use Rattle.engine_events.specs.Turn.{answers_left, config_in, instr_at, Ready}
 
@@ -51,28 +54,28 @@ Known b = (eqb b go_on_byte || (eqb b halt_byte || value_type b)) ≡ true
 
 -- ---- the step once its event is told, at the instruction at which the run t stands
 -- whether the answer fits
-abbrev pub reply_fits : List ℕ → List ℕ → List ℕ → Turn → Bool
-reply_fits s types list t =
-    fits_reply (has_dest (code_at s t.spot.at)) (type_in types (instr_at s t.spot.at).dest) (answers_left list t)
+abbrev pub reply_fits : Ground → Turn → Bool
+reply_fits g t =
+    fits_reply (has_dest (code_at g.s.now t.spot.at)) (type_in g.types.now (instr_at g.s.now t.spot.at).dest) (answers_left g.list.now t)
 
 -- where it leads
-abbrev pub replied : List ℕ → List ℕ → List ℕ → List ℕ → List ℕ → Turn → Event → Config
-replied s types starts list before t e =
-    moved (laid_out s starts) t.spot.block
-    (body_at s (instr_end (id_width s) s t.spot.at) (t.spot.left - 1))
-    (reply (has_dest (code_at s t.spot.at)) (type_in types (instr_at s t.spot.at).dest) (instr_at s t.spot.at)
-    (tick (config_in s list before t).mach) e (answers_left list t))
+abbrev pub replied : Ground → Cells → Turn → Event → Config
+replied g before t e =
+    moved (blocks_of g) t.spot.block
+    (body_at g.s.now (instr_end (id_width g.s.now) g.s.now t.spot.at) (t.spot.left - 1))
+    (reply (has_dest (code_at g.s.now t.spot.at)) (type_in g.types.now (instr_at g.s.now t.spot.at).dest) (instr_at g.s.now t.spot.at)
+    (tick (config_in g before t).mach) e (answers_left g.list.now t))
 
 -- it fits, and the run is at r, whatever the event was
-pub record Replies (s types starts list before after : List ℕ) (t r : Turn) : Type 0 where
-  pub fits : reply_fits s types list t ≡ true
-  pub goes : (e : Event) → replied s types starts list before t e ≡ shifted (e ∷ []) 1 (config_in s list after r)
+pub record Replies (g : Ground) (before after : Cells) (t r : Turn) : Type 0 where
+  pub fits : reply_fits g t ≡ true
+  pub goes : (e : Event) → replied g before t e ≡ shifted (e ∷ []) 1 (config_in g after r)
 
 -- from t to r, whose events end at a place; or the answer does not fit
-pub record Answered (s types starts list before after : List ℕ) (event : ℕ) (t r : Turn) : Type 0 where
-  pub ready : Ready s starts list r
+pub record Answered (g : Ground) (before after : Cells) (event : ℕ) (t r : Turn) : Type 0 where
+  pub ready : Ready g r
   pub more : r.more ≡ t.more
   pub tells : r.tells ≡ t.tells
   pub told : r.event ≡ event
-  pub unfit : r.spot.stop ≡ unfit_number → (reply_fits s types list t ≡ false) × (r.spot.left ≡ 0)
-  pub fit : r.spot.stop ≢ unfit_number → Replies s types starts list before after t r
+  pub unfit : r.spot.stop ≡ Unfit → (reply_fits g t ≡ false) × (r.spot.left ≡ 0)
+  pub fit : r.spot.stop ≢ Unfit → Replies g before after t r

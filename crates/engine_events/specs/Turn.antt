@@ -1,5 +1,5 @@
 -- A run between two steps as the code has it, and what a step does to it: the machine's step, with the events that it adds written out.
-use Rattle.std.specs.Prelude.{ℕ, suc, ◌+◌, ◌*◌, ◌≤◌, List, true, false, cond, ◌≡◌, ◌≢◌, ltb, eqb, length}
+use Rattle.std.specs.Prelude.{ℕ, suc, ◌+◌, ◌*◌, ◌<◌, ◌≤◌, List, true, false, cond, ◌≡◌, ◌≢◌, ltb, eqb, length, Option as CodeOption, None, Some}
 use Rattle.std.proofs.Math.Option.{Option, none, some}
 use Rattle.arith.specs.Value.{Val}
 use Rattle.record.specs.declared.NameIx.{NameIx}
@@ -13,11 +13,12 @@ use Rattle.running.specs.House.{event_bytes, events_bytes}
 use Rattle.running.specs.Items.{answer_from, answer_end}
 use Rattle.running.specs.Engine.{fits_at}
 use Rattle.write_bytes.specs.Put.{put, Wrote}
-use Rattle.engine_cells.specs.declared.Size.{Size}
-use Rattle.engine_cells.specs.declared.Size.TheVariants.{Is, Unset}
+use Rattle.engine_cells.specs.declared.Cells.{Cells}
 use Rattle.engine_cells.specs.Cells.{row_from}
 use Rattle.engine_house.specs.Reads.{Sure}
-use Rattle.engine_quiet.specs.Spot.{unfit_number, laid_out, told_types, stand_of, at_spot, Standing, quiet, code_at}
+use Rattle.engine_quiet.specs.declared.Ground.{Ground}
+use Rattle.engine_quiet.specs.declared.Over.TheVariants.{Unfit}
+use Rattle.engine_quiet.specs.Spot.{told_types, blocks_of, stand_of, at_spot, Grounded, Standing, quiet, code_at}
 use Rattle.engine_events.specs.declared.Turn.{Turn}
 
 -- ---- sizes
@@ -39,19 +40,25 @@ abbrev pub answers_left : List ℕ → Turn → List Answer
 answers_left list t = items (answer_from list) (answer_end list) t.answer t.answers
 
 -- no event so far and no step counted
-abbrev pub config_in : List ℕ → List ℕ → List ℕ → Turn → Config
-config_in s list cells t = at_spot s cells (answers_left list t) t.spot 0
+abbrev pub config_in : Ground → Cells → Turn → Config
+config_in g cells t = at_spot g.s.now cells (answers_left g.list.now t) t.spot 0
 
 -- ---- what a run rests on
 -- how many events can still come: one for each answer left and one more; none once it is over
 abbrev pub events_ahead : Turn → ℕ
 events_ahead t = cond (eqb t.spot.left 0) 0 (suc t.answers)
 
-pub record Ready (s starts list : List ℕ) (t : Turn) : Type 0 where
-  pub standing : Standing s starts t.spot
-  pub sure : Sure list t.answer t.answers
+pub record Ready (g : Ground) (t : Turn) : Type 0 where
+  pub standing : Standing g t.spot
+  pub sure : Sure g.list.now t.answer t.answers
   pub answers : t.answer + most_answer * t.answers ≤ far
   pub events : t.event + most_event * events_ahead t ≤ far
+
+-- the run stands before an instruction
+pub record Going (g : Ground) (t : Turn) : Type 0 where
+  pub grounded : Grounded g
+  pub ready : Ready g t
+  pub some : 0 < t.spot.left
 
 -- ---- an instruction with an event
 abbrev pub instr_at : List ℕ → ℕ → Instr
@@ -76,29 +83,29 @@ EventPut s at l m to none = Unit {0}
 EventPut s at l m to (some vs) = m ≡ put l to (event_bytes (id_width s) (event_of (instr_at s at) vs))
 
 -- the same with the place behind it
-pub record EventTold (s : List ℕ) (at : ℕ) (l m : List ℕ) (to : ℕ) (vs : List Val) (r : Size) : Type 0 where
+pub record EventTold (s : List ℕ) (at : ℕ) (l m : List ℕ) (to : ℕ) (vs : List Val) (r : CodeOption ℕ) : Type 0 where
   pub place : ℕ
-  pub is : r ≡ Is place
+  pub is : r ≡ Some place
   pub wrote : Wrote l m to place (event_bytes (id_width s) (event_of (instr_at s at) vs))
   pub near : place ≤ to + most_event
 
-unfoldable pub EventAs : List ℕ → ℕ → List ℕ → List ℕ → ℕ → Size → Option (List Val) → Type 0
-EventAs s at l m to r none = (r ≡ Unset) × (m ≡ l)
+unfoldable pub EventAs : List ℕ → ℕ → List ℕ → List ℕ → ℕ → CodeOption ℕ → Option (List Val) → Type 0
+EventAs s at l m to r none = (r ≡ None) × (m ≡ l)
 EventAs s at l m to r (some vs) = EventTold s at l m to vs r
 
 -- ---- a step, from t to r; before and after: the cells; l and m: what was lent for the events
-pub record Does (s types starts list before after l m : List ℕ) (t r : Turn) : Type 0 where
+pub record Does (g : Ground) (before after : Cells) (l m : List ℕ) (t r : Turn) : Type 0 where
   pub added : List Event
-  pub fits : fits_at (told_types types) (config_in s list before t).mach (stand_of s t.spot) ≡ true
-  pub takes : take_step (told_types types) (laid_out s starts) (config_in s list before t) ≡ shifted added 1 (config_in s list after r)
-  pub wrote : Wrote l m t.event r.event (events_bytes (id_width s) added)
+  pub fits : fits_at (told_types g.types.now) (config_in g before t).mach (stand_of g.s.now t.spot) ≡ true
+  pub takes : take_step (told_types g.types.now) (blocks_of g) (config_in g before t) ≡ shifted added 1 (config_in g after r)
+  pub wrote : Wrote l m t.event r.event (events_bytes (id_width g.s.now) added)
 
 -- or the answer that it takes does not fit
-pub record Stepped (s types starts list before after l m : List ℕ) (t r : Turn) : Type 0 where
-  pub ready : Ready s starts list r
+pub record Stepped (g : Ground) (before after : Cells) (l m : List ℕ) (t r : Turn) : Type 0 where
+  pub ready : Ready g r
   pub more : r.more ≡ t.more
   pub tells : r.tells ≡ t.tells
   pub unfit :
-      r.spot.stop ≡ unfit_number →
-      (fits_at (told_types types) (config_in s list before t).mach (stand_of s t.spot) ≡ false) × (r.spot.left ≡ 0)
-  pub fit : r.spot.stop ≢ unfit_number → Does s types starts list before after l m t r
+      r.spot.stop ≡ Unfit →
+      (fits_at (told_types g.types.now) (config_in g before t).mach (stand_of g.s.now t.spot) ≡ false) × (r.spot.left ≡ 0)
+  pub fit : r.spot.stop ≢ Unfit → Does g before after l m t r

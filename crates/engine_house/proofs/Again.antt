@@ -13,7 +13,7 @@ use Rattle.running.specs.House.{go_on_byte, halt_byte, value_type}
 use Rattle.running.specs.Items.{plain_from, behind_type, answer_from, answer_end}
 use Rattle.engine_cells.specs.declared.Cell.{Cell}
 use Rattle.engine_cells.specs.Cells.{cell_value}
-use Rattle.engine_cells.proofs.Cells.{by_plain, by_pointer}
+use Rattle.engine_cells.proofs.Store.{by_plain, by_pointer}
 use Rattle.engine_house.specs.Reads.{answer_by, end_by}
 use Rattle.engine_house.proofs.Values.{no_pointer}
 

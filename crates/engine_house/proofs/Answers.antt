@@ -8,7 +8,6 @@ use lib.ListN.{length}
 use lib.Dec.{ltb, eqb}
 use borrow.Author.Tests.{lt-ltb, le-ltb}
 use Rattle.arith.specs.Value.{is_pointer}
-use Rattle.arith.proofs.Clash.{clash}
 use Rattle.record.specs.declared.Refusal.TheVariants.{Limit}
 use Rattle.record.specs.Reader.{Res, got, fault, then, give, ◌>>=◌, num_at, field}
 use Rattle.record.specs.Decode.{items}
@@ -20,27 +19,26 @@ use Rattle.running.specs.House.{go_on_byte, halt_byte, value_type, answer_test, 
 use Rattle.running.specs.Items.{answer_from, answer_end}
 use Rattle.running.proofs.Items.{answer_decodes}
 use Rattle.engine_cells.specs.declared.Cell.{Cell}
+use Rattle.std.proofs.Common.{Option as CodeOption, None, Some}
 use Rattle.engine_house.specs.declared.Item.{Item}
-use Rattle.engine_house.specs.declared.Item.TheVariants.{Is, No}
-use Rattle.engine_house.specs.declared.Told.{Told}
-use Rattle.engine_house.specs.declared.Told.TheVariants as told
-use Rattle.engine_house.specs.Reads.{AnswerAs, answer_by, opens, Sure, longest_list, ListAs}
+use Rattle.engine_house.specs.Reads.{item, AnswerAs, answer_by, opens, Sure, longest_list, ListAs}
 use Rattle.engine_house.proofs.Values.{Faulty}
 use Rattle.engine_house.proofs.Form.{up_to_end, form_opens, form_closed, one_then, none_left}
 
 -- ---- an answer that was read, or not
-was_answer : (z : Res Answer) (r : Item) (c : Cell) (q : ℕ) → AnswerAs z r → r ≡ Is c q → z ≡ got (answer_by c) q
+was_answer : (z : Res Answer) (r : CodeOption Item) (c : Cell) (q : ℕ) → AnswerAs z r → r ≡ Some (item c q) → z ≡ got (answer_by c) q
 unfolding AnswerAs
 was_answer (got x p) r c q h e =
-    let same : Is h.cell p ≡ Is c q = sym h.is ∙ e in
-    let a : h.cell ≡ c = cc same in
-    let b : p ≡ q = cc same in
+    let both : Some (item h.cell p) ≡ Some (item c q) = sym h.is ∙ e in
+    let same : item h.cell p ≡ item c q = cc both in
+    let a : h.cell ≡ c = ap (λ (x : Item). x.cell) same in
+    let b : p ≡ q = ap (λ (x : Item). x.end) same in
     λ i. got ((sym h.answer ∙ ap answer_by a) i) (b i)
-was_answer (fault k o) r c q h e = clash (cc (h, e))
+was_answer (fault k o) r c q h e = absurd (cc (h, e))
 
-not_answer : (z : Res Answer) (r : Item) → AnswerAs z r → r ≡ No → Faulty z
+not_answer : (z : Res Answer) (r : CodeOption Item) → AnswerAs z r → r ≡ None → Faulty z
 unfolding AnswerAs
-not_answer (got x p) r h e = let same : Is h.cell p ≡ No = sym h.is ∙ e in clash (cc same)
+not_answer (got x p) r h e = let same : Some (item h.cell p) ≡ None = sym h.is ∙ e in absurd (cc same)
 not_answer (fault k o) r h e = record { reason = k; place = o; is = refl }
 
 module _ (s : List ℕ) (p : ℕ) where
@@ -89,20 +87,20 @@ rest_none (suc n) s p h =
     ap (λ (b : Bool). up_to_end (λ s p. cond b more (give []) s p) s p) b ∙ none_left s p h
 
 -- xs from p on, behind n others
-pub record ToCome (s : List ℕ) (p n : ℕ) (xs : List Answer) (r : Told) : Type 0 where
+pub record ToCome (s : List ℕ) (p n : ℕ) (xs : List Answer) (r : CodeOption ℕ) : Type 0 where
   pub more : ℕ
-  pub are : r ≡ told.Are (n + more)
+  pub are : r ≡ Some (n + more)
   pub those : xs ≡ items (answer_from s) (answer_end s) p more
   pub sure : Sure s p more
   pub few : n + more ≤ length s
 
-unfoldable pub ComesAs : List ℕ → ℕ → ℕ → Res (List Answer) → Told → Type 0
+unfoldable pub ComesAs : List ℕ → ℕ → ℕ → Res (List Answer) → CodeOption ℕ → Type 0
 ComesAs s p n (got xs q) r = ToCome s p n xs r
-ComesAs s p n (fault k o) r = r ≡ told.No
+ComesAs s p n (fault k o) r = r ≡ None
 
 -- an answer in front of them
 one_before :
-    (s : List ℕ) (p n : ℕ) (x : Answer) (q : ℕ) → house_answer s p ≡ got x q → (z : Res (List Answer)) (r : Told) →
+    (s : List ℕ) (p n : ℕ) (x : Answer) (q : ℕ) → house_answer s p ≡ got x q → (z : Res (List Answer)) (r : CodeOption ℕ) →
     ComesAs s q (n + 1) z r → ComesAs s p n (then z (λ xs e. got (x ∷ xs) e)) r
 unfolding ComesAs items Sure
 one_before s p n x q e (got xs o) r h =
@@ -110,7 +108,7 @@ one_before s p n x q e (got xs o) r h =
     let sum : n + 1 + h.more ≡ n + suc h.more = omega arith in
     record {
       more = suc h.more;
-      are = h.are ∙ ap told.Are sum;
+      are = h.are ∙ ap Some sum;
       those = λ i. d.0 i ∷ (h.those ∙ ap (λ (p : ℕ). items (answer_from s) (answer_end s) p h.more) d.1) i;
       sure = (sure_byte s p x q e, subst (λ (p : ℕ). Sure s p h.more) d.1 h.sure);
       few = omega (arith, h.few);
@@ -121,9 +119,9 @@ one_before s p n x q e (fault k o) r h = h
 module _ (s : List ℕ) where
   -- n answers were read, up to p: so the rest gives the whole
   abbrev pub ListLoop : ℕ → ℕ → Type 0
-  ListLoop p n = (r : Told) → ComesAs s p n (answers_rest (length s - n) s p) r → ListAs s (answers s 0) r
+  ListLoop p n = (r : CodeOption ℕ) → ComesAs s p n (answers_rest (length s - n) s p) r → ListAs s (answers s 0) r
 
-  pub list_closed : opens s ≡ false → ListAs s (answers s 0) told.No
+  pub list_closed : opens s ≡ false → ListAs s (answers s 0) None
   unfolding answers ListAs
   list_closed o = rw (form_closed (to_end (length s) house_answer) s o).is refl
 
@@ -140,7 +138,7 @@ module _ (s : List ℕ) where
           let sum : 0 + h.more ≡ h.more = omega arith in
           record {
             count = h.more;
-            are = h.are ∙ ap told.Are sum;
+            are = h.are ∙ ap Some sum;
             those = h.those;
             sure = h.sure;
             few = omega (arith, h.few);
@@ -149,9 +147,9 @@ module _ (s : List ℕ) where
       go (fault k o) h = h
 
   module _ (p n : ℕ) (so_far : ListLoop p n) where
-    module _ (h : p < length s) (l : n + 5 ≤ p) (r : Item) (d : AnswerAs (house_answer s p) r) where
+    module _ (h : p < length s) (l : n + 5 ≤ p) (r : CodeOption Item) (d : AnswerAs (house_answer s p) r) where
       by_next :
-          (z : Res Answer) → house_answer s p ≡ z → (r : Told) →
+          (z : Res Answer) → house_answer s p ≡ z → (r : CodeOption ℕ) →
           ComesAs s p n (then z (λ x q. then (answers_rest (length s - (n + 1)) s q) (λ xs e. got (x ∷ xs) e))) r →
           ListAs s (answers s 0) r
       by_next z e r k =
@@ -160,7 +158,7 @@ module _ (s : List ℕ) where
           (subst (λ (m : ℕ). ComesAs s p n (answers_rest m s p) r) (sym one_less)
           (subst (λ (y : Res (List Answer)). ComesAs s p n y r) (sym (rest_more (length s - (n + 1)) s p h z e)) k))
 
-      module _ (c : Cell) (q : ℕ) (e : r ≡ Is c q) where
+      module _ (c : Cell) (q : ℕ) (e : r ≡ Some (item c q)) where
         pub list_went : ListLoop q (n + 1)
         list_went r' k =
             let w = was_answer (house_answer s p) r c q d e in
@@ -171,16 +169,16 @@ module _ (s : List ℕ) where
             let w = was_answer (house_answer s p) r c q d e in
             omega (arith, ((answer_decodes s p).told (answer_by c) q w).1, end_behind s p)
 
-      pub list_stopped : r ≡ No → ListAs s (answers s 0) told.No
+      pub list_stopped : r ≡ None → ListAs s (answers s 0) None
       unfolding ComesAs
       list_stopped e =
           let f = not_answer (house_answer s p) r d e in
-          by_next (fault f.reason f.place) f.is told.No refl
+          by_next (fault f.reason f.place) f.is None refl
 
-    pub list_done : length s ≤ p → n ≤ length s → ListAs s (answers s 0) (told.Are n)
+    pub list_done : length s ≤ p → n ≤ length s → ListAs s (answers s 0) (Some n)
     unfolding ComesAs items Sure
     list_done h l =
         let sum : n ≡ n + 0 = omega arith in
-        so_far (told.Are n)
-        (subst (λ (y : Res (List Answer)). ComesAs s p n y (told.Are n)) (sym (rest_none (length s - n) s p h))
-        (record { more = 0; are = ap told.Are sum; those = refl; sure = tt; few = omega (arith, l) }))
+        so_far (Some n)
+        (subst (λ (y : Res (List Answer)). ComesAs s p n y (Some n)) (sym (rest_none (length s - n) s p h))
+        (record { more = 0; are = ap Some sum; those = refl; sure = tt; few = omega (arith, l) }))

@@ -13,8 +13,8 @@ use Rattle.arith.specs.Value.{Val, is_pointer, has_type}
 use Rattle.arith.proofs.Clash.{clash}
 use Rattle.record.specs.declared.Refusal.{Refusal}
 use Rattle.record.specs.declared.Refusal.TheVariants.{Length, Limit}
-use Rattle.record.specs.declared.Test.{Test}
-use Rattle.record.specs.declared.Test.TheVariants.{Passes, Fails}
+use Rattle.record.specs.Reader.{Test}
+use Rattle.std.specs.Prelude.{Ok, Err}
 use Rattle.record.specs.Reader.{Res, got, fault, Reader, then, judge, give, ◌>>=◌, num_at, field}
 use Rattle.record.specs.Tests.{need}
 use Rattle.record.proofs.Following.{field_past, field_there, tested_is}
@@ -22,10 +22,10 @@ use Rattle.machine.specs.Machine.{Answer, value, go_on, halt}
 use Rattle.running.specs.House.{nothing_byte, go_on_byte, halt_byte, value_type, value_behind, stored_test, set_behind, stored_behind, stored_value, answer_test, value_answer, answer_behind, house_answer}
 use Rattle.engine_cells.specs.declared.Cell.{Cell}
 use Rattle.engine_cells.specs.Cells.{value_by, cell_value}
-use Rattle.engine_cells.proofs.Cells.{held_none, held_some}
+use Rattle.engine_cells.proofs.Store.{held_none, held_some}
+use Rattle.std.proofs.Common.{Option as CodeOption, None, Some}
 use Rattle.engine_house.specs.declared.Item.{Item}
-use Rattle.engine_house.specs.declared.Item.TheVariants.{Is, No}
-use Rattle.engine_house.specs.Reads.{ReadAs, KindAs, TypedAs, StoredAs, answer_by, AnswerAs, end_by}
+use Rattle.engine_house.specs.Reads.{item, ReadAs, KindAs, TypedAs, StoredAs, answer_by, AnswerAs, end_by}
 use Rattle.engine_house.proofs.Values.{Faulty, was_read, not_read, kind_is}
 
 -- ---- the first byte
@@ -39,10 +39,10 @@ module _ {A : Type 0} (test : ℕ → Test) (f : ℕ → Reader A) (s : List ℕ
   abbrev byte : ℕ
   byte = num_at s at 1
 
-  abbrev item : Res A
-  item = (field 1 test >>= λ t. f t >>= λ x. give x) s at
+  abbrev read_item : Res A
+  read_item = (field 1 test >>= λ t. f t >>= λ x. give x) s at
 
-  by_byte : (z : Res ℕ) → field 1 test s at ≡ z → item ≡ then z (λ t p. f t s p)
+  by_byte : (z : Res ℕ) → field 1 test s at ≡ z → read_item ≡ then z (λ t p. f t s p)
   unfolding ◌>>=◌ give
   by_byte z e = ap (λ (u : Res ℕ). then u (λ t p. then (f t s p) (λ x q. got x q))) e ∙ go z
     where
@@ -54,21 +54,21 @@ module _ {A : Type 0} (test : ℕ → Test) (f : ℕ → Reader A) (s : List ℕ
       go (got t p) = same (f t s p)
       go (fault k o) = refl
 
-  byte_past : length s ≤ at → item ≡ fault Length at
+  byte_past : length s ≤ at → read_item ≡ fault Length at
   byte_past h = by_byte (fault Length at) (field_past 1 test s at (omega (arith, h)))
 
   module _ (h : at < length s) where
-    judged : (t : Test) → test byte ≡ t → item ≡ then (judge t at (got byte (at + 1))) (λ t p. f t s p)
+    judged : (t : Test) → test byte ≡ t → read_item ≡ then (judge t at (got byte (at + 1))) (λ t p. f t s p)
     judged t e =
         by_byte (judge t at (got byte (at + 1)))
         (tested_is 1 test s at byte (at + 1) (field_there 1 s at (omega (arith, h)))
         ∙ ap (λ (u : Test). judge u at (got byte (at + 1))) e)
 
-    byte_passes : test byte ≡ Passes → item ≡ f byte s (at + 1)
-    byte_passes e = judged Passes e
+    byte_passes : test byte ≡ Ok tt → read_item ≡ f byte s (at + 1)
+    byte_passes e = judged (Ok tt) e
 
-    byte_fails : (k : Refusal) → test byte ≡ Fails k → item ≡ fault k at
-    byte_fails k e = judged (Fails k) e
+    byte_fails : (k : Refusal) → test byte ≡ Err k → read_item ≡ fault k at
+    byte_fails k e = judged (Err k) e
 
 -- ---- an item of a store
 module _ (s : List ℕ) (at : ℕ) where
@@ -94,7 +94,7 @@ module _ (s : List ℕ) (at : ℕ) where
       pub stored_untyped : value_type first ≡ false → Faulty (stored_value s at)
       unfolding stored_value stored_test
       stored_untyped e =
-          let fails : stored_test first ≡ Fails Limit = λ i. need (no_nothing i || e i) Limit in
+          let fails : stored_test first ≡ Err Limit = λ i. need (no_nothing i || e i) Limit in
           record { reason = Limit; place = at; is = byte_fails stored_test stored_behind s at h Limit fails }
 
       stored_typed :
@@ -102,49 +102,49 @@ module _ (s : List ℕ) (at : ℕ) where
           stored_value s at ≡ then z (λ v p. got (some v) p)
       unfolding stored_value stored_behind set_behind stored_test ◌>>=◌ give
       stored_typed e z k =
-          let passes : stored_test first ≡ Passes = λ i. need (no_nothing i || e i) Limit in
+          let passes : stored_test first ≡ Ok tt = λ i. need (no_nothing i || e i) Limit in
           byte_passes stored_test stored_behind s at h passes
           ∙ ap (λ (b : Bool). cond b (give none) (set_behind first) s (at + 1)) no_nothing
           ∙ ap (λ (u : Res Val). then u (λ v p. got (some v) p)) k
 
 -- ---- what the code answers of it
 module _ (t : ℕ) (z : Res (Option Val)) where
-  pub no_stored : Faulty z → StoredAs t z No
+  pub no_stored : Faulty z → StoredAs t z None
   unfolding StoredAs
   no_stored f = rw f.is refl
 
-  pub is_nothing : (c : Cell) (p : ℕ) → c.kind ≡ nothing_byte → z ≡ got none p → StoredAs t z (Is c p)
+  pub is_nothing : (c : Cell) (p : ℕ) → c.kind ≡ nothing_byte → z ≡ got none p → StoredAs t z (Some (item c p))
   unfolding StoredAs TypedAs
   is_nothing c p k e = rw e (record { cell = c; is = refl; holds = held_none c.kind c.word c.offset k })
 
   module _ (c : Cell) (p : ℕ) (e : z ≡ got (some (cell_value c)) p) where
-    is_typed : c.kind ≢ nothing_byte → has_type t (cell_value c) ≡ true → StoredAs t z (Is c p)
+    is_typed : c.kind ≢ nothing_byte → has_type t (cell_value c) ≡ true → StoredAs t z (Some (item c p))
     unfolding StoredAs TypedAs
     is_typed n h = rw (e, h) (record { cell = c; is = refl; holds = held_some c.kind c.word c.offset n })
 
-    is_mistyped : has_type t (cell_value c) ≡ false → StoredAs t z No
+    is_mistyped : has_type t (cell_value c) ≡ false → StoredAs t z None
     unfolding StoredAs TypedAs
     is_mistyped h = rw (e, h) refl
 
 -- a value behind its type byte, read by the code
 module _
     (s : List ℕ) (at : ℕ) (h : at < length s) (n : num_at s at 1 ≢ nothing_byte) (v : value_type (num_at s at 1) ≡ true)
-    (t : ℕ) (r : Item) (d : ReadAs (value_behind (num_at s at 1) s (at + 1)) r) where
+    (t : ℕ) (r : CodeOption Item) (d : ReadAs (value_behind (num_at s at 1) s (at + 1)) r) where
   abbrev behind_byte : Res Val
   behind_byte = value_behind (num_at s at 1) s (at + 1)
 
-  module _ (c : Cell) (p : ℕ) (e : r ≡ Is c p) where
+  module _ (c : Cell) (p : ℕ) (e : r ≡ Some (item c p)) where
     set_read : stored_value s at ≡ got (some (cell_value c)) p
     set_read = stored_typed s at h n v (got (cell_value c) p) (was_read behind_byte r c p d e)
 
-    pub stored_fit : KindAs (num_at s at 1) r → has_type t (cell_value c) ≡ true → StoredAs t (stored_value s at) (Is c p)
+    pub stored_fit : KindAs (num_at s at 1) r → has_type t (cell_value c) ≡ true → StoredAs t (stored_value s at) (Some (item c p))
     stored_fit k f =
         is_typed t (stored_value s at) c p set_read (λ q. n (sym (kind_is (num_at s at 1) r c p k e) ∙ q)) f
 
-    pub stored_unfit : has_type t (cell_value c) ≡ false → StoredAs t (stored_value s at) No
+    pub stored_unfit : has_type t (cell_value c) ≡ false → StoredAs t (stored_value s at) None
     stored_unfit f = is_mistyped t (stored_value s at) c p set_read f
 
-  pub stored_missing : r ≡ No → StoredAs t (stored_value s at) No
+  pub stored_missing : r ≡ None → StoredAs t (stored_value s at) None
   stored_missing e =
       let f = not_read behind_byte r d e in
       no_stored t (stored_value s at)
@@ -152,16 +152,16 @@ module _
 
 -- ---- an answer
 module _ (z : Res Answer) where
-  no_answer : Faulty z → AnswerAs z No
+  no_answer : Faulty z → AnswerAs z None
   unfolding AnswerAs
   no_answer f = rw f.is refl
 
-  is_answer : (c : Cell) (p : ℕ) → z ≡ got (answer_by c) p → AnswerAs z (Is c p)
+  is_answer : (c : Cell) (p : ℕ) → z ≡ got (answer_by c) p → AnswerAs z (Some (item c p))
   unfolding AnswerAs
   is_answer c p e = rw e (record { cell = c; is = refl; answer = refl })
 
 module _ (s : List ℕ) (at : ℕ) where
-  pub answer_past : length s ≤ at → AnswerAs (house_answer s at) No
+  pub answer_past : length s ≤ at → AnswerAs (house_answer s at) None
   unfolding house_answer
   answer_past h =
       no_answer (house_answer s at) (record { reason = Length; place = at; is = byte_past answer_test answer_behind s at h })
@@ -180,13 +180,13 @@ module _ (s : List ℕ) (at : ℕ) where
     -- a byte that stands alone
     pub answer_marked :
         (word offset : ℕ) → (eqb (num_at s at 1) go_on_byte || eqb (num_at s at 1) halt_byte) ≡ true →
-        AnswerAs (house_answer s at) (Is (record { kind = num_at s at 1; word = word; offset = offset }) (at + 1))
+        AnswerAs (house_answer s at) (Some (item (record { kind = num_at s at 1; word = word; offset = offset }) (at + 1)))
     unfolding answer_by give
     answer_marked word offset e = go (eqb (num_at s at 1) go_on_byte) refl (eqb (num_at s at 1) halt_byte) refl e
       where
         go :
             (a : Bool) → eqb (num_at s at 1) go_on_byte ≡ a → (b : Bool) → eqb (num_at s at 1) halt_byte ≡ b → (a || b) ≡ true →
-            AnswerAs (house_answer s at) (Is (record { kind = num_at s at 1; word = word; offset = offset }) (at + 1))
+            AnswerAs (house_answer s at) (Some (item (record { kind = num_at s at 1; word = word; offset = offset }) (at + 1)))
         go true e b f k =
             is_answer (house_answer s at) _ (at + 1)
             (by_marks true b _ e f refl refl
@@ -201,16 +201,16 @@ module _ (s : List ℕ) (at : ℕ) where
       unmarked : (eqb (num_at s at 1) go_on_byte ≡ false) × (eqb (num_at s at 1) halt_byte ≡ false)
       unmarked = or_no (eqb (num_at s at 1) go_on_byte) (eqb (num_at s at 1) halt_byte) e
 
-      pub answer_untyped : value_type (num_at s at 1) ≡ false → AnswerAs (house_answer s at) No
+      pub answer_untyped : value_type (num_at s at 1) ≡ false → AnswerAs (house_answer s at) None
       unfolding house_answer answer_test
       answer_untyped v =
-          let fails : answer_test (num_at s at 1) ≡ Fails Limit = λ i. need (unmarked.0 i || (unmarked.1 i || v i)) Limit in
+          let fails : answer_test (num_at s at 1) ≡ Err Limit = λ i. need (unmarked.0 i || (unmarked.1 i || v i)) Limit in
           no_answer (house_answer s at)
           (record { reason = Limit; place = at; is = byte_fails answer_test answer_behind s at h Limit fails })
 
       -- a value behind its type byte, read by the code
       pub answer_valued :
-          value_type (num_at s at 1) ≡ true → (r : Item) → ReadAs (value_behind (num_at s at 1) s (at + 1)) r →
+          value_type (num_at s at 1) ≡ true → (r : CodeOption Item) → ReadAs (value_behind (num_at s at 1) s (at + 1)) r →
           KindAs (num_at s at 1) r → AnswerAs (house_answer s at) r
       unfolding value_answer ◌>>=◌ give answer_by
       answer_valued v r d k = go r d k
@@ -221,17 +221,19 @@ module _ (s : List ℕ) (at : ℕ) where
               by_marks false false true unmarked.0 unmarked.1 v refl ∙ ap (λ (u : Res Val). then u (λ v p. got (value v) p)) q
 
           go :
-              (r : Item) → ReadAs (value_behind (num_at s at 1) s (at + 1)) r → KindAs (num_at s at 1) r →
+              (r : CodeOption Item) → ReadAs (value_behind (num_at s at 1) s (at + 1)) r → KindAs (num_at s at 1) r →
               AnswerAs (house_answer s at) r
-          go (Is c p) d k =
-              let same : c.kind ≡ num_at s at 1 = kind_is (num_at s at 1) (Is c p) c p k refl in
+          go (Some x) d k =
+              let c = x.cell in
+              let p = x.end in
+              let same : c.kind ≡ num_at s at 1 = kind_is (num_at s at 1) (Some (item c p)) c p k refl in
               let a : eqb c.kind go_on_byte ≡ false = ap (λ (b : ℕ). eqb b go_on_byte) same ∙ unmarked.0 in
               let b : eqb c.kind halt_byte ≡ false = ap (λ (b : ℕ). eqb b halt_byte) same ∙ unmarked.1 in
               is_answer (house_answer s at) c p
-              (read (got (cell_value c) p) (was_read _ (Is c p) c p d refl)
+              (read (got (cell_value c) p) (was_read _ (Some (item c p)) c p d refl)
               ∙ λ i. got (cond (sym a i) go_on (cond (sym b i) halt (value (cell_value c)))) p)
-          go No d k =
-              let f = not_read _ No d refl in
+          go None d k =
+              let f = not_read _ None d refl in
               no_answer (house_answer s at)
               (record { reason = f.reason; place = f.place; is = read (fault f.reason f.place) f.is })
 

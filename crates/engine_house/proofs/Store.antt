@@ -2,13 +2,13 @@
 use Prim.Native.Nat.{ℕ, zero, suc, ◌+◌, ◌-◌, ◌<◌, ◌≤◌}
 use mathlib.Core.Path.{◌≡◌, refl, sym, ap, ◌∙◌, subst, fun_ext}
 use mathlib.Core.List.{List, [], ◌∷◌}
-use mathlib.Core.Bool.{Bool, true, false, ◌&&◌}
+use mathlib.Core.Bool.{Bool, true, false, cond, ◌&&◌}
 use mathlib.Core.Option.{Option, none}
 use native.Mathlib.Omega.{arith}
 use lib.ListN.{length, get_or, drop, drop_of_length-le}
 use lib.Seq.{drop-cons}
 use lib.Dec.{leb}
-use borrow.Author.Tests.{leb-true, leb-false}
+use borrow.Author.Tests.{le-leb, lt-leb, leb-true, leb-false}
 use Rattle.arith.specs.Map.{upd}
 use Rattle.arith.specs.Value.{Val}
 use Rattle.arith.proofs.Clash.{clash}
@@ -19,10 +19,11 @@ use Rattle.record.specs.Reader.{Res, got, fault, then, times}
 use Rattle.machine.specs.Machine.{Store}
 use Rattle.running.specs.House.{stored_value, stored, of_type, of_types, holding}
 use Rattle.engine_cells.specs.declared.Cell.{Cell}
+use Rattle.engine_cells.specs.declared.Cells.{Cells}
 use Rattle.engine_cells.specs.Cells.{cell_holds, store_in}
+use Rattle.std.proofs.Common.{Option as CodeOption, None, Some}
 use Rattle.engine_house.specs.declared.Item.{Item}
-use Rattle.engine_house.specs.declared.Item.TheVariants.{Is, No}
-use Rattle.engine_house.specs.Reads.{TypedAs, StoredAs, Blank, opens, StoreAs}
+use Rattle.engine_house.specs.Reads.{item, TypedAs, StoredAs, opens, FitAs, StoreAs}
 use Rattle.engine_house.proofs.Form.{up_to_end, form_opens, form_closed, one_then, none_left, some_left}
 
 -- ---- an item that was read, or not
@@ -31,19 +32,20 @@ record Typed (t : ℕ) (z : Res (Option Val)) (c : Cell) (q : ℕ) : Type 0 wher
   is : z ≡ got (cell_holds c) q
   typed : of_type t (cell_holds c) ≡ true
 
-was_stored : (t : ℕ) (z : Res (Option Val)) (r : Item) (c : Cell) (q : ℕ) → StoredAs t z r → r ≡ Is c q → Typed t z c q
+was_stored : (t : ℕ) (z : Res (Option Val)) (r : CodeOption Item) (c : Cell) (q : ℕ) → StoredAs t z r → r ≡ Some (item c q) → Typed t z c q
 unfolding StoredAs TypedAs
 was_stored t (got o p) r c q h e = go (of_type t o) refl h
   where
     go : (b : Bool) → of_type t o ≡ b → TypedAs b o p r → Typed t (got o p) c q
     go true f h =
-        let same : Is h.cell p ≡ Is c q = sym h.is ∙ e in
-        let a : h.cell ≡ c = cc same in
-        let b : p ≡ q = cc same in
+        let both : Some (item h.cell p) ≡ Some (item c q) = sym h.is ∙ e in
+        let same : item h.cell p ≡ item c q = cc both in
+        let a : h.cell ≡ c = ap (λ (x : Item). x.cell) same in
+        let b : p ≡ q = ap (λ (x : Item). x.end) same in
         let d : o ≡ cell_holds c = sym h.holds ∙ ap cell_holds a in
         record { is = λ i. got (d i) (b i); typed = ap (of_type t) (sym d) ∙ f }
-    go false f h = clash (cc (h, e))
-was_stored t (fault k o) r c q h e = clash (cc (h, e))
+    go false f h = absurd (cc (h, e))
+was_stored t (fault k o) r c q h e = absurd (cc (h, e))
 
 -- ---- what is set from the i-th name on
 unfoldable pub all_set : Store → ℕ → List (Option Val) → Store
@@ -73,12 +75,16 @@ set_there σ i (v ∷ vs) h (suc k) =
     ap (λ (j : ℕ). all_set (upd NameIx-discrete σ (nm i) v) (i + 1) vs (nm j)) e
     ∙ set_there (upd NameIx-discrete σ (nm i) v) (i + 1) vs later k
 
--- from an empty table on
-all_held : (cells : List ℕ) (vs : List (Option Val)) → Blank cells → all_set (store_in cells) 0 vs ≡ holding vs
+-- cells of which none is set
+abbrev pub Blank : Cells → Type 0
+Blank cells = (x : NameIx) → store_in cells x ≡ none
+
+-- from there on
+all_held : (cells : Cells) (vs : List (Option Val)) → Blank cells → all_set (store_in cells) 0 vs ≡ holding vs
 all_held cells vs b =
     fun_ext (λ x.
     ap (λ (k : ℕ). all_set (store_in cells) 0 vs (nm k)) (from_zero x.0) ∙
-    set_there (store_in cells) 0 vs (λ y l. b.none_set y) x.0)
+    set_there (store_in cells) 0 vs (λ y l. b y) x.0)
   where
     from_zero : (k : ℕ) → k ≡ 0 + k
     from_zero k = omega arith
@@ -88,11 +94,11 @@ abbrev pub stored_rest : ℕ → List ℕ → ℕ → Res (List (Option Val))
 stored_rest n s p = up_to_end (times n (λ left. stored_value)) s p
 
 -- ts: the types of the names from i on; σ: what is held so far
-unfoldable pub RestAs : List ℕ → ℕ → Store → Res (List (Option Val)) → List ℕ → Bool → Type 0
+unfoldable pub RestAs : List ℕ → ℕ → Store → Res (List (Option Val)) → Cells → Bool → Type 0
 RestAs ts i σ (got vs p) after b = (b ≡ of_types ts vs) × (b ≡ true → store_in after ≡ all_set σ i vs)
 RestAs ts i σ (fault k o) after b = b ≡ false
 
-module _ (after : List ℕ) where
+module _ (after : Cells) where
   -- the first item, and those behind it
   first_set :
       (t : ℕ) (ts : List ℕ) (i : ℕ) (σ : Store) (o : Option Val) → of_type t o ≡ true → (z : Res (List (Option Val))) (b : Bool) →
@@ -109,7 +115,7 @@ module _ (after : List ℕ) where
   first_unfit t ts i σ o f (got vs p) = (ap (λ (c : Bool). c && of_types ts vs) (sym f), λ e. clash (cc e))
   first_unfit t ts i σ o f (fault k p) = refl
 
-  module _ (t : ℕ) (ts : List ℕ) (n i : ℕ) (σ : Store) (s : List ℕ) (p : ℕ) (r : Item) (h : StoredAs t (stored_value s p) r) where
+  module _ (t : ℕ) (ts : List ℕ) (n i : ℕ) (σ : Store) (s : List ℕ) (p : ℕ) (r : CodeOption Item) (h : StoredAs t (stored_value s p) r) where
     rest_by : (z : Res (Option Val)) → stored_value s p ≡ z →
         stored_rest (suc n) s p ≡ then z (λ o q. then (stored_rest n s q) (λ vs e. got (o ∷ vs) e))
     unfolding times
@@ -118,7 +124,7 @@ module _ (after : List ℕ) where
         ∙ ap (λ (u : Res (Option Val)). then u (λ o q. then (stored_rest n s q) (λ vs e. got (o ∷ vs) e))) e
 
     one_stored :
-        (c : Cell) (q : ℕ) → r ≡ Is c q → (b : Bool) →
+        (c : Cell) (q : ℕ) → r ≡ Some (item c q) → (b : Bool) →
         RestAs ts (i + 1) (upd NameIx-discrete σ (nm i) (cell_holds c)) (stored_rest n s q) after b →
         RestAs (t ∷ ts) i σ (stored_rest (suc n) s p) after b
     one_stored c q e b k =
@@ -126,7 +132,7 @@ module _ (after : List ℕ) where
         subst (λ (z : Res (List (Option Val))). RestAs (t ∷ ts) i σ z after b) (sym (rest_by (got (cell_holds c) q) w.is))
         (first_set t ts i σ (cell_holds c) w.typed (stored_rest n s q) b k)
 
-    none_stored : r ≡ No → RestAs (t ∷ ts) i σ (stored_rest (suc n) s p) after false
+    none_stored : r ≡ None → RestAs (t ∷ ts) i σ (stored_rest (suc n) s p) after false
     unfolding RestAs StoredAs TypedAs
     none_stored e = go (stored_value s p) refl h
       where
@@ -136,39 +142,51 @@ module _ (after : List ℕ) where
             (first_unfit t ts i σ o (unfit (of_type t o) h) (stored_rest n s q))
           where
             unfit : (b : Bool) → TypedAs b o q r → b ≡ false
-            unfit true h = let same : Is h.cell q ≡ No = sym h.is ∙ e in clash (cc same)
+            unfit true h = let same : Some (item h.cell q) ≡ None = sym h.is ∙ e in absurd (cc same)
             unfit false h = refl
         go (fault k q) f h =
             subst (λ (z : Res (List (Option Val))). RestAs (t ∷ ts) i σ z after false) (sym (rest_by (fault k q) f)) refl
 
+-- what the code answers: cells, if they hold the store
+abbrev pub answered : Cells → Bool → CodeOption Cells
+answered after b = cond b (Some after) None
+
+answers_as :
+    (ts : List ℕ) (after : Cells) (b : Bool) (vs : List (Option Val)) →
+    b ≡ of_types ts vs → (b ≡ true → store_in after ≡ holding vs) → FitAs (of_types ts vs) vs (answered after b)
+unfolding FitAs
+answers_as ts after true vs e h =
+    subst (λ (c : Bool). FitAs c vs (Some after)) e (record { cells = after; are = refl; hold = h refl })
+answers_as ts after false vs e h = subst (λ (c : Bool). FitAs c vs None) e refl
+
 -- ---- the loop; ts: the types of all names
 module _ (s ts : List ℕ) where
   -- i items were read, up to p
-  abbrev Left : List ℕ → ℕ → ℕ → List ℕ → Bool → Type 0
+  abbrev Left : Cells → ℕ → ℕ → Cells → Bool → Type 0
   Left cells p i after b = RestAs (drop i ts) i (store_in cells) (stored_rest (length ts - i) s p) after b
 
   -- so the rest gives the whole
-  abbrev pub StoreLoop : List ℕ → ℕ → ℕ → Type 0
-  StoreLoop cells p i = (after : List ℕ) (b : Bool) → Left cells p i after b → StoreAs ts (stored (length ts) s 0) after b
+  abbrev pub StoreLoop : Cells → ℕ → ℕ → Type 0
+  StoreLoop cells p i = (after : Cells) (b : Bool) → Left cells p i after b → StoreAs ts (stored (length ts) s 0) (answered after b)
 
-  pub store_closed : (after : List ℕ) → opens s ≡ false → StoreAs ts (stored (length ts) s 0) after false
+  pub store_closed : opens s ≡ false → StoreAs ts (stored (length ts) s 0) None
   unfolding stored StoreAs
-  store_closed after o = rw (form_closed (times (length ts) (λ left. stored_value)) s o).is refl
+  store_closed o = rw (form_closed (times (length ts) (λ left. stored_value)) s o).is refl
 
-  pub store_start : (cells : List ℕ) → opens s ≡ true → Blank cells → StoreLoop cells 5 0
+  pub store_start : (cells : Cells) → opens s ≡ true → Blank cells → StoreLoop cells 5 0
   unfolding stored RestAs StoreAs
   store_start cells o k after b h =
       let n : length ts ≡ length ts - 0 = omega arith in
       let e : stored (length ts) s 0 ≡ stored_rest (length ts - 0) s 5 =
       form_opens (times (length ts) (λ left. stored_value)) s o ∙ ap (λ (m : ℕ). stored_rest m s 5) n in
-      subst (λ (z : Res (List (Option Val))). StoreAs ts z after b) (sym e) (go (stored_rest (length ts - 0) s 5) h)
+      subst (λ (z : Res (List (Option Val))). StoreAs ts z (answered after b)) (sym e) (go (stored_rest (length ts - 0) s 5) h)
     where
-      go : (z : Res (List (Option Val))) → RestAs ts 0 (store_in cells) z after b → StoreAs ts z after b
-      go (got vs p) h = (h.0, λ e. h.1 e ∙ all_held cells vs k)
-      go (fault k o) h = h
+      go : (z : Res (List (Option Val))) → RestAs ts 0 (store_in cells) z after b → StoreAs ts z (answered after b)
+      go (got vs p) h = answers_as ts after b vs h.0 (λ e. h.1 e ∙ all_held cells vs k)
+      go (fault k o) h = ap (answered after) h
 
-  module _ (cells : List ℕ) (p i : ℕ) (so_far : StoreLoop cells p i) where
-    module _ (h : i < length ts) (r : Item) (d : StoredAs (get_or ts i 0) (stored_value s p) r) where
+  module _ (cells : Cells) (p i : ℕ) (so_far : StoreLoop cells p i) where
+    module _ (h : i < length ts) (r : CodeOption Item) (d : StoredAs (get_or ts i 0) (stored_value s p) r) where
       next_types : drop i ts ≡ get_or ts i 0 ∷ drop (i + 1) ts
       next_types =
           let e : suc i ≡ i + 1 = omega arith in
@@ -176,9 +194,9 @@ module _ (s ts : List ℕ) where
 
       -- by the next item and those behind it
       by_next :
-          (after : List ℕ) (b : Bool) →
+          (after : Cells) (b : Bool) →
           RestAs (get_or ts i 0 ∷ drop (i + 1) ts) i (store_in cells) (stored_rest (suc (length ts - (i + 1))) s p) after b →
-          StoreAs ts (stored (length ts) s 0) after b
+          StoreAs ts (stored (length ts) s 0) (answered after b)
       by_next after b k =
           let one_less : length ts - i ≡ suc (length ts - (i + 1)) = omega (arith, h) in
           so_far after b
@@ -187,7 +205,7 @@ module _ (s ts : List ℕ) where
 
       -- it was put into the table
       pub store_went :
-          (c : Cell) (q : ℕ) → r ≡ Is c q → (m : List ℕ) →
+          (c : Cell) (q : ℕ) → r ≡ Some (item c q) → (m : Cells) →
           store_in m ≡ upd NameIx-discrete (store_in cells) (nm i) (cell_holds c) →
           StoreLoop m q (i + 1)
       store_went c q e m f after b k =
@@ -195,13 +213,13 @@ module _ (s ts : List ℕ) where
           (one_stored after (get_or ts i 0) (drop (i + 1) ts) (length ts - (i + 1)) i (store_in cells) s p r d c q e b
           (subst (λ (σ : Store). RestAs (drop (i + 1) ts) (i + 1) σ (stored_rest (length ts - (i + 1)) s q) after b) f k))
 
-      pub store_stopped : (after : List ℕ) → r ≡ No → StoreAs ts (stored (length ts) s 0) after false
-      store_stopped after e =
-          by_next after false
-          (none_stored after (get_or ts i 0) (drop (i + 1) ts) (length ts - (i + 1)) i (store_in cells) s p r d e)
+      pub store_stopped : r ≡ None → StoreAs ts (stored (length ts) s 0) None
+      store_stopped e =
+          by_next cells false
+          (none_stored cells (get_or ts i 0) (drop (i + 1) ts) (length ts - (i + 1)) i (store_in cells) s p r d e)
 
     -- behind the last item: is anything left over
-    pub store_done : length ts ≤ i → StoreAs ts (stored (length ts) s 0) cells (leb (length s) p)
+    store_done : length ts ≤ i → StoreAs ts (stored (length ts) s 0) (answered cells (leb (length s) p))
     unfolding times RestAs all_set of_types
     store_done h =
         let n : length ts - i ≡ 0 = omega (arith, h) in
@@ -213,3 +231,9 @@ module _ (s ts : List ℕ) where
         go : (b : Bool) → leb (length s) p ≡ b → RestAs [] i (store_in cells) (stored_rest 0 s p) cells b
         go true e = rw (none_left {A = Option Val} s p (leb-true (length s) p e)) (refl, λ k. refl)
         go false e = rw (some_left {A = Option Val} s p (leb-false (length s) p e)) refl
+
+    pub store_full : length ts ≤ i → length s ≤ p → StoreAs ts (stored (length ts) s 0) (Some cells)
+    store_full h f = rw (le-leb (length s) p f) at (store_done h)
+
+    pub store_over : length ts ≤ i → p < length s → StoreAs ts (stored (length ts) s 0) None
+    store_over h f = rw (lt-leb (length s) p f) at (store_done h)

@@ -8,11 +8,10 @@ use lib.Dec.{T, ltb, leb, eqb}
 use borrow.Author.Tests.{lt-ltb, le-leb, lt-leb, leb-true, eqb-true}
 use Rattle.arith.specs.Word.{W}
 use Rattle.arith.specs.Value.{Val, pointer, scalar, type_of, in_range, has_type}
-use Rattle.arith.proofs.Clash.{clash}
 use Rattle.arith.proofs.Operation.{eqb_comm}
 use Rattle.record.specs.declared.Refusal.{Refusal}
-use Rattle.record.specs.declared.Test.{Test}
-use Rattle.record.specs.declared.Test.TheVariants.{Passes, Fails}
+use Rattle.record.specs.Reader.{Test}
+use Rattle.std.specs.Prelude.{Ok, Err}
 use Rattle.record.specs.Reader.{Res, got, fault, then, judge, give, ◌>>=◌, field}
 use Rattle.record.specs.Tests.{any, literal_test}
 use Rattle.record.proofs.Following.{tested_is, tested_no}
@@ -20,10 +19,11 @@ use Rattle.running.specs.House.{held, value_type, word, two_words, plain_behind,
 use Rattle.running.specs.Items.{plain_from}
 use Rattle.engine_cells.specs.declared.Cell.{Cell}
 use Rattle.engine_cells.specs.Cells.{value_by, cell_value}
-use Rattle.engine_cells.proofs.Cells.{by_plain, by_pointer}
+use Rattle.engine_cells.proofs.Store.{by_plain, by_pointer}
+use Rattle.std.proofs.Common.{Option as CodeOption, None, Some, Result}
+use Rattle.std.specs.Result.{result_ok}
 use Rattle.engine_house.specs.declared.Item.{Item}
-use Rattle.engine_house.specs.declared.Item.TheVariants.{Is, No}
-use Rattle.engine_house.specs.Reads.{ReadAs, KindAs}
+use Rattle.engine_house.specs.Reads.{item, ReadAs, KindAs}
 
 -- ---- a value, read or not
 -- the fault is some fault
@@ -33,33 +33,44 @@ pub record Faulty {A : Type 0} (z : Res A) : Type 0 where
   pub is : z ≡ fault reason place
 
 module _ (z : Res Val) where
-  pub read_is : (c : Cell) (p : ℕ) → z ≡ got (cell_value c) p → ReadAs z (Is c p)
+  pub read_is : (c : Cell) (p : ℕ) → z ≡ got (cell_value c) p → ReadAs z (Some (item c p))
   unfolding ReadAs
   read_is c p e = rw e (record { cell = c; is = refl; value = refl })
 
-  pub read_no : (k : Refusal) (o : ℕ) → z ≡ fault k o → ReadAs z No
+  pub read_no : (k : Refusal) (o : ℕ) → z ≡ fault k o → ReadAs z None
   unfolding ReadAs
   read_no k o e = rw e refl
 
 -- and back to what was read
-pub was_read : (z : Res Val) (r : Item) (c : Cell) (p : ℕ) → ReadAs z r → r ≡ Is c p → z ≡ got (cell_value c) p
+pub was_read : (z : Res Val) (r : CodeOption Item) (c : Cell) (p : ℕ) → ReadAs z r → r ≡ Some (item c p) → z ≡ got (cell_value c) p
 unfolding ReadAs
 was_read (got v q) r c p h e =
-    let same : Is h.cell q ≡ Is c p = sym h.is ∙ e in
-    let a : h.cell ≡ c = cc same in
-    let b : q ≡ p = cc same in
+    let both : Some (item h.cell q) ≡ Some (item c p) = sym h.is ∙ e in
+    let same : item h.cell q ≡ item c p = cc both in
+    let a : h.cell ≡ c = ap (λ (x : Item). x.cell) same in
+    let b : q ≡ p = ap (λ (x : Item). x.end) same in
     λ i. got ((sym h.value ∙ ap cell_value a) i) (b i)
-was_read (fault k o) r c p h e = clash (cc (h, e))
+was_read (fault k o) r c p h e = absurd (cc (h, e))
 
-pub not_read : (z : Res Val) (r : Item) → ReadAs z r → r ≡ No → Faulty z
+pub not_read : (z : Res Val) (r : CodeOption Item) → ReadAs z r → r ≡ None → Faulty z
 unfolding ReadAs
-not_read (got v q) r h e = let same : Is h.cell q ≡ No = sym h.is ∙ e in clash (cc same)
+not_read (got v q) r h e = let same : Some (item h.cell q) ≡ None = sym h.is ∙ e in absurd (cc same)
 not_read (fault k o) r h e = record { reason = k; place = o; is = refl }
 
-pub kind_is : (kind : ℕ) (r : Item) (c : Cell) (p : ℕ) → KindAs kind r → r ≡ Is c p → c.kind ≡ kind
+pub kind_is : (kind : ℕ) (r : CodeOption Item) (c : Cell) (p : ℕ) → KindAs kind r → r ≡ Some (item c p) → c.kind ≡ kind
 unfolding KindAs
-kind_is kind (Is d q) c p k e = let same : d ≡ c = cc e in ap (λ (x : Cell). x.kind) (sym same) ∙ k
-kind_is kind No c p k e = clash (cc e)
+kind_is kind (Some x) c p k e = let same : x ≡ item c p = cc e in ap (λ (x : Item). x.cell.kind) (sym same) ∙ k
+kind_is kind None c p k e = absurd (cc e)
+
+-- ---- a result as an option
+-- by `ok`
+pub was_ok : {A E : Type 0} (r : Result A E) (a : A) → Some a ≡ result_ok r → r ≡ Ok a
+was_ok (Ok b) a e = let same : b ≡ a = cc e in ap Ok same
+was_ok (Err f) a e = absurd (cc e)
+
+pub was_err : {A E : Type 0} (r : Result A E) → None ≡ result_ok r → (f : E) × (r ≡ Err f)
+was_err (Ok b) e = absurd (cc e)
+was_err (Err f) e = (f, refl)
 
 -- ---- behind the type byte
 module _ (t : ℕ) (s : List ℕ) (at : ℕ) where
@@ -106,13 +117,13 @@ module _ (t : ℕ) (s : List ℕ) (at : ℕ) (h : t ≤ 4) where
   by_field z e = word_behind ∙ ap (λ (u : Res ℕ). then u (λ x p. got (plain_from t x) p)) e
 
   pub word_read :
-      (x p : ℕ) → field 8 any s at ≡ got x p → literal_test (t % 4) x ≡ Passes → value_behind t s at ≡ got (value_by t x 0) p
+      (x p : ℕ) → field 8 any s at ≡ got x p → literal_test (t % 4) x ≡ Ok tt → value_behind t s at ≡ got (value_by t x 0) p
   word_read x p e f =
       by_field (got x p) (tested_is 8 (literal_test (t % 4)) s at x p e ∙ ap (λ (u : Test). judge u at (got x p)) f)
       ∙ ap (λ (v : Val). got v p) (sym (by_plain t x 0 h))
 
   pub word_unfit :
-      (x p : ℕ) (k : Refusal) → field 8 any s at ≡ got x p → literal_test (t % 4) x ≡ Fails k → value_behind t s at ≡ fault k at
+      (x p : ℕ) (k : Refusal) → field 8 any s at ≡ got x p → literal_test (t % 4) x ≡ Err k → value_behind t s at ≡ fault k at
   word_unfit x p k e f =
       by_field (fault k at) (tested_is 8 (literal_test (t % 4)) s at x p e ∙ ap (λ (u : Test). judge u at (got x p)) f)
 

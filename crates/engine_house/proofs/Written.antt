@@ -1,6 +1,6 @@
 -- A store written: what each name holds, one behind the other, and then the length and the version in front of it.
 use Prim.Native.Nat.{ℕ, suc, ◌+◌, ◌-◌, ◌<◌, ◌≤◌}
-use mathlib.Core.Path.{◌≡◌, sym, ap, ◌∙◌, subst}
+use mathlib.Core.Path.{◌≡◌, refl, sym, ap, ◌∙◌, subst}
 use mathlib.Core.Logic.{◌≢◌}
 use mathlib.Core.List.{List, ◌++◌}
 use mathlib.Core.Option.{Option}
@@ -13,25 +13,28 @@ use Rattle.record.proofs.Stands.{length_be}
 use Rattle.write_bytes.specs.Put.{put, Wrote}
 use Rattle.write_bytes.proofs.Wrote.{Rest, wrote_before, rest_all, rest_less, rest_none}
 use Rattle.running.specs.House.{nothing_byte, values_from, value_bytes, stored_bytes, form_bytes}
-use Rattle.engine_cells.specs.Cells.{kind_in, value_in, store_in}
-use Rattle.engine_cells.proofs.Cells.{nothing_in, some_in}
+use Rattle.engine_cells.specs.declared.Cell.{Cell}
+use Rattle.engine_cells.specs.declared.Cells.{Cells}
+use Rattle.engine_cells.specs.Cells.{cell_in, value_in, store_in}
+use Rattle.engine_cells.proofs.Store.{nothing_in, some_in}
 use Rattle.engine_house.specs.Reads.{values_held}
 
 -- ---- what one name holds
-module _ {l m : List ℕ} {i p : ℕ} (cells : List ℕ) (x kind : ℕ) (e : kind ≡ kind_in cells x) where
-  pub nothing_written : kind ≡ nothing_byte → Wrote l m i p (be 1 nothing_byte) → Wrote l m i p (stored_bytes (store_in cells (nm x)))
+module _ {l m : List ℕ} {i p : ℕ} (cells : Cells) (x : ℕ) (c : Cell) (e : c ≡ cell_in cells x) where
+  pub nothing_written : c.kind ≡ nothing_byte → Wrote l m i p (be 1 nothing_byte) → Wrote l m i p (stored_bytes (store_in cells (nm x)))
   unfolding stored_bytes
   nothing_written k w =
-      subst (λ (o : Option Val). Wrote l m i p (stored_bytes o)) (sym (nothing_in cells x (sym e ∙ k))) w
+      subst (λ (o : Option Val). Wrote l m i p (stored_bytes o)) (sym (nothing_in cells x c e k)) w
 
   pub value_written :
-      kind ≢ nothing_byte → Wrote l m i p (value_bytes (value_in cells x)) → Wrote l m i p (stored_bytes (store_in cells (nm x)))
+      c.kind ≢ nothing_byte → Wrote l m i p (value_bytes (value_in cells x)) → Wrote l m i p (stored_bytes (store_in cells (nm x)))
   unfolding stored_bytes
   value_written n w =
-      subst (λ (o : Option Val). Wrote l m i p (stored_bytes o)) (sym (some_in cells x (λ k. n (e ∙ k)))) w
+      subst (λ (o : Option Val). Wrote l m i p (stored_bytes o))
+      (sym (some_in cells x (cell_in cells x) refl (λ k. n (ap (λ (d : Cell). d.kind) e ∙ k)))) w
 
 -- ---- what the names hold from the x-th on
-module _ {l l₀ whole : List ℕ} {i i₀ : ℕ} (cells : List ℕ) (x n : ℕ) where
+module _ {l l₀ whole : List ℕ} {i i₀ : ℕ} (cells : Cells) (x n : ℕ) where
   pub held_less :
       {m : List ℕ} {p : ℕ} → x < n → Wrote l m i p (stored_bytes (store_in cells (nm x))) →
       Rest l i (values_held cells x (n - x)) l₀ i₀ whole → Rest m p (values_held cells (x + 1) (n - (x + 1))) l₀ i₀ whole
@@ -49,7 +52,7 @@ module _ {l l₀ whole : List ℕ} {i i₀ : ℕ} (cells : List ℕ) (x n : ℕ)
       let none : n - x ≡ 0 = omega (arith, h) in
       rest_none (values_held cells x (n - x)) (ap (values_held cells x) none) r
 
-pub held_all : {l : List ℕ} {i : ℕ} (cells : List ℕ) (n : ℕ) → Rest l i (values_held cells 0 (n - 0)) l i (values_held cells 0 n)
+pub held_all : {l : List ℕ} {i : ℕ} (cells : Cells) (n : ℕ) → Rest l i (values_held cells 0 (n - 0)) l i (values_held cells 0 n)
 held_all {l} {i} cells n =
     let all : n ≡ n - 0 = omega arith in
     subst (λ (k : ℕ). Rest l i (values_held cells 0 k) l i (values_held cells 0 n)) all rest_all

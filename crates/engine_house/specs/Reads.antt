@@ -1,8 +1,7 @@
--- What reading the house form comes to in the code: an item as a cell, a store as a table of cells, a list of answers as their number.
-use Rattle.std.specs.Prelude.{ℕ, zero, suc, ◌+◌, ◌-◌, ◌<◌, ◌≤◌, List, map, Bool, true, false, cond, ◌&&◌, ◌||◌, ◌≡◌, eqb, leb, length}
-use Rattle.std.proofs.Math.Option.{Option, none}
+-- What reading the house form comes to in the code: an item as a cell, a store as cells, a list of answers as their number.
+use Rattle.std.specs.Prelude.{ℕ, zero, suc, ◌+◌, ◌-◌, ◌<◌, ◌≤◌, List, map, Bool, true, false, cond, ◌&&◌, ◌||◌, ◌≡◌, eqb, leb, length, Option as CodeOption, None, Some}
+use Rattle.std.proofs.Math.Option.{Option}
 use Rattle.arith.specs.Value.{Val, is_pointer}
-use Rattle.record.specs.declared.NameIx.{NameIx}
 use Rattle.record.specs.Reader.{Res, got, fault, num_at}
 use Rattle.record.specs.Write.{join}
 use Rattle.record.specs.Decode.{items}
@@ -10,58 +9,60 @@ use Rattle.machine.specs.Machine.{Answer, value, go_on, halt}
 use Rattle.running.specs.House.{go_on_byte, halt_byte, value_type, of_type, of_types, holding, values_from, stored_bytes}
 use Rattle.running.specs.Items.{answer_from, answer_end}
 use Rattle.engine_cells.specs.declared.Cell.{Cell}
-use Rattle.engine_cells.specs.Cells.{most_words, cell_value, cell_holds, store_in}
+use Rattle.engine_cells.specs.declared.Cells.{Cells}
+use Rattle.engine_cells.specs.Cells.{cell_value, cell_holds, store_in}
 use Rattle.engine_house.specs.declared.Item.{Item}
-use Rattle.engine_house.specs.declared.Item.TheVariants.{Is, No}
-use Rattle.engine_house.specs.declared.Told.{Told}
-use Rattle.engine_house.specs.declared.Told.TheVariants as told
 
 -- ---- items
+-- a cell, and the place behind it
+abbrev pub item : Cell → ℕ → Item
+item c p = record { cell = c; end = p }
+
 -- a cell with this value, and the place behind it
-pub record CellOf (v : Val) (p : ℕ) (r : Item) : Type 0 where
+pub record CellOf (v : Val) (p : ℕ) (r : CodeOption Item) : Type 0 where
   pub cell : Cell
-  pub is : r ≡ Is cell p
+  pub is : r ≡ Some (item cell p)
   pub value : cell_value cell ≡ v
 
 -- a value, read or not
-unfoldable pub ReadAs : Res Val → Item → Type 0
+unfoldable pub ReadAs : Res Val → CodeOption Item → Type 0
 ReadAs (got v p) r = CellOf v p r
-ReadAs (fault k o) r = r ≡ No
+ReadAs (fault k o) r = r ≡ None
 
 -- and the cell's type byte
-unfoldable pub KindAs : ℕ → Item → Type 0
-KindAs kind (Is c p) = c.kind ≡ kind
-KindAs kind No = Unit {0}
+unfoldable pub KindAs : ℕ → CodeOption Item → Type 0
+KindAs kind (Some x) = x.cell.kind ≡ kind
+KindAs kind None = Unit {0}
 
 -- a cell that holds this, and the place behind it
-pub record CellWith (o : Option Val) (p : ℕ) (r : Item) : Type 0 where
+pub record CellWith (o : Option Val) (p : ℕ) (r : CodeOption Item) : Type 0 where
   pub cell : Cell
-  pub is : r ≡ Is cell p
+  pub is : r ≡ Some (item cell p)
   pub holds : cell_holds cell ≡ o
 
 -- a value of the store or nothing, where it has its name's type or not
-unfoldable pub TypedAs : Bool → Option Val → ℕ → Item → Type 0
+unfoldable pub TypedAs : Bool → Option Val → ℕ → CodeOption Item → Type 0
 TypedAs true o p r = CellWith o p r
-TypedAs false o p r = r ≡ No
+TypedAs false o p r = r ≡ None
 
 -- t: the type of its name
-unfoldable pub StoredAs : ℕ → Res (Option Val) → Item → Type 0
+unfoldable pub StoredAs : ℕ → Res (Option Val) → CodeOption Item → Type 0
 StoredAs t (got o p) r = TypedAs (of_type t o) o p r
-StoredAs t (fault k o) r = r ≡ No
+StoredAs t (fault k o) r = r ≡ None
 
 -- an answer by the cell that was read of it
 unfoldable pub answer_by : Cell → Answer
 answer_by c = cond (eqb c.kind go_on_byte) go_on (cond (eqb c.kind halt_byte) halt (value (cell_value c)))
 
 -- a cell of this answer, and the place behind it
-pub record CellFor (x : Answer) (p : ℕ) (r : Item) : Type 0 where
+pub record CellFor (x : Answer) (p : ℕ) (r : CodeOption Item) : Type 0 where
   pub cell : Cell
-  pub is : r ≡ Is cell p
+  pub is : r ≡ Some (item cell p)
   pub answer : answer_by cell ≡ x
 
-unfoldable pub AnswerAs : Res Answer → Item → Type 0
+unfoldable pub AnswerAs : Res Answer → CodeOption Item → Type 0
 AnswerAs (got x p) r = CellFor x p r
-AnswerAs (fault k o) r = r ≡ No
+AnswerAs (fault k o) r = r ≡ None
 
 -- ---- the form around them
 -- its length and version are there and are right
@@ -69,15 +70,21 @@ unfoldable pub opens : List ℕ → Bool
 opens s = leb 5 (length s) && (eqb (num_at s 0 4) (length s - 4) && eqb (num_at s 4 1) 1)
 
 -- ---- a store
--- a table in which no name is set
-pub record Blank (cells : List ℕ) : Type 0 where
-  pub many : length cells ≡ most_words
-  pub none_set : (x : NameIx) → store_in cells x ≡ none
+-- cells that hold these values
+pub record CellsOf (vs : List (Option Val)) (r : CodeOption Cells) : Type 0 where
+  pub cells : Cells
+  pub are : r ≡ Some cells
+  pub hold : store_in cells ≡ holding vs
 
--- ts: the types of the names. Where it reads, the code says whether each value is of its name's type, and then the table holds them
-unfoldable pub StoreAs : List ℕ → Res (List (Option Val)) → List ℕ → Bool → Type 0
-StoreAs ts (got vs p) after r = (r ≡ of_types ts vs) × (r ≡ true → store_in after ≡ holding vs)
-StoreAs ts (fault k o) after r = r ≡ false
+-- where each value is of its name's type, or not
+unfoldable pub FitAs : Bool → List (Option Val) → CodeOption Cells → Type 0
+FitAs true vs r = CellsOf vs r
+FitAs false vs r = r ≡ None
+
+-- ts: the types of the names
+unfoldable pub StoreAs : List ℕ → Res (List (Option Val)) → CodeOption Cells → Type 0
+StoreAs ts (got vs p) r = FitAs (of_types ts vs) vs r
+StoreAs ts (fault k o) r = r ≡ None
 
 -- ---- a list of answers
 -- the n answers from a place on have each a byte that stands alone or a type byte
@@ -90,17 +97,17 @@ abbrev pub longest_list : ℕ
 longest_list = 4294967300
 
 -- n answers, which are xs
-pub record ListOf (s : List ℕ) (xs : List Answer) (r : Told) : Type 0 where
+pub record ListOf (s : List ℕ) (xs : List Answer) (r : CodeOption ℕ) : Type 0 where
   pub count : ℕ
-  pub are : r ≡ told.Are count
+  pub are : r ≡ Some count
   pub those : xs ≡ items (answer_from s) (answer_end s) 5 count
   pub sure : Sure s 5 count
   pub few : count ≤ length s
   pub short : length s < longest_list
 
-unfoldable pub ListAs : List ℕ → Res (List Answer) → Told → Type 0
+unfoldable pub ListAs : List ℕ → Res (List Answer) → CodeOption ℕ → Type 0
 ListAs s (got xs p) r = ListOf s xs r
-ListAs s (fault k o) r = r ≡ told.No
+ListAs s (fault k o) r = r ≡ None
 
 -- ---- a second time
 -- where the answer with this first byte ends
@@ -109,5 +116,5 @@ end_by kind at = cond (eqb kind go_on_byte) (at + 1) (cond (eqb kind halt_byte) 
 
 -- ---- a store written
 -- the bytes of what n names hold, the first of them i
-abbrev pub values_held : List ℕ → ℕ → ℕ → List ℕ
+abbrev pub values_held : Cells → ℕ → ℕ → List ℕ
 values_held cells i n = join (map stored_bytes (values_from (store_in cells) i n))

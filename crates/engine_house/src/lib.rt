@@ -9,24 +9,15 @@ ghost use Rattle.running.specs.House.{go_on_byte, halt_byte, value_type, value_b
 ghost use Rattle.read_fields.specs.Places.{places};
 ghost use Rattle.write_bytes.specs.Put.{Wrote};
 ghost use Rattle.engine_cells.specs.Cells.{cell_value, store_in};
-ghost use Rattle.engine_house.specs.Reads.{ReadAs, KindAs, StoredAs, AnswerAs, Blank, StoreAs, opens, longest_list, ListAs, end_by, values_held};
+ghost use Rattle.engine_house.specs.Reads.{ReadAs, KindAs, StoredAs, AnswerAs, StoreAs, opens, longest_list, ListAs, end_by, values_held};
 
-use engine_cells::Cell;
-use read_fields::Num;
-use record::Test;
+use engine_cells::{Cell, Cells};
 
-// What an item holds and the place behind it; or it does not read.
+// What an item holds that was read, and the place behind it.
 #[derive(Clone, Copy)]
-pub enum Item {
-    Is(Cell, usize),
-    No,
-}
-
-// How many answers a list has; or it does not read.
-#[derive(Clone, Copy)]
-pub enum Told {
-    Are(usize),
-    No,
+pub struct Item {
+    pub cell: Cell,
+    pub end: usize,
 }
 
 // The bytes that stand alone in a list of answers: go on and halt.
@@ -61,49 +52,37 @@ fn value_type(kind: u8) -> bool
 
 // ---- values
 // A pointer's base and offset, behind its type byte.
-fn two_words(s: &[u8], at: usize, kind: u8) -> Item
+fn two_words(s: &[u8], at: usize, kind: u8) -> Option<Item>
     requires { 16 ≤ kind }
     ensures { ReadAs (value_behind kind s.now at) result × KindAs kind result }
 {
-    match read_fields::eight_at(s, at) {
-        Num::Is(x, p) => match read_fields::eight_at(s, p) {
-            Num::Is(y, q) => Item::Is(
-                Cell {
-                    kind: kind,
-                    word: x,
-                    offset: y,
-                },
-                q,
-            ),
-            Num::No(_, _) => Item::No,
-        },
-        Num::No(_, _) => Item::No,
-    }
+    let (word, p) = read_fields::field_at::<8>(s, at).ok()?;
+    let (offset, end) = read_fields::field_at::<8>(s, p).ok()?;
+    Some(Item {
+        cell: Cell { kind, word, offset },
+        end,
+    })
 }
 
 // The word of a value that is no pointer, tested as a literal's.
-fn one_word(s: &[u8], at: usize, kind: u8) -> Item
+fn one_word(s: &[u8], at: usize, kind: u8) -> Option<Item>
     requires { kind ≤ 4 }
     ensures { ReadAs (value_behind kind s.now at) result × KindAs kind result }
 {
-    match read_fields::eight_at(s, at) {
-        Num::Is(x, p) => match read_shapes::literal_test((kind % 4) as u64, x) {
-            Test::Passes => Item::Is(
-                Cell {
-                    kind: kind,
-                    word: x,
-                    offset: 0,
-                },
-                p,
-            ),
-            Test::Fails(_) => Item::No,
+    let (word, end) = read_fields::field_at::<8>(s, at).ok()?;
+    read_shapes::literal_test((kind % 4) as u64, word).ok()?;
+    Some(Item {
+        cell: Cell {
+            kind,
+            word,
+            offset: 0,
         },
-        Num::No(_, _) => Item::No,
-    }
+        end,
+    })
 }
 
 // What stands behind the type byte of a value.
-fn value_behind(s: &[u8], at: usize, kind: u8) -> Item
+fn value_behind(s: &[u8], at: usize, kind: u8) -> Option<Item>
     requires { T (value_type kind) }
     ensures { ReadAs (value_behind kind s.now at) result × KindAs kind result }
 {
@@ -121,65 +100,62 @@ fn opens(s: &[u8]) -> bool
     if s.len() < 5 {
         return false;
     }
-    (read_fields::be32(s, 0) as usize == s.len() - 4) & (read_fields::byte_or(s, 4) == 1)
+    (read_fields::be::<4>(s, 0) as usize == s.len() - 4) & (read_fields::byte_or(s, 4) == 1)
+}
+
+// An item of one byte, which ends behind it.
+fn byte_item(kind: u8, at: usize) -> Item
+    requires { at + 1 < places }
+    ensures { result ≡ record { cell = record { kind = kind; word = 0; offset = 0 }; end = at + 1 } }
+{
+    Item {
+        cell: Cell {
+            kind,
+            word: 0,
+            offset: 0,
+        },
+        end: at + 1,
+    }
 }
 
 // A value of the store, which has to be of type t, or nothing.
-fn stored_at(s: &[u8], at: usize, t: u8) -> Item
+fn stored_at(s: &[u8], at: usize, t: u8) -> Option<Item>
     ensures { StoredAs t (stored_value s.now at) result }
 {
     if at >= s.len() {
-        return Item::No;
+        return None;
     }
     let kind = s[at];
     if kind == engine_cells::NOTHING {
-        return Item::Is(
-            Cell {
-                kind: kind,
-                word: 0,
-                offset: 0,
-            },
-            at + 1,
-        );
+        return Some(byte_item(kind, at));
     }
     if !value_type(kind) {
-        return Item::No;
+        return None;
     }
-    match value_behind(s, at + 1, kind) {
-        Item::Is(c, p) => {
-            if has_type(t, c) {
-                Item::Is(c, p)
-            } else {
-                Item::No
-            }
-        }
-        Item::No => Item::No,
+    let item = value_behind(s, at + 1, kind)?;
+    if has_type(t, item.cell) {
+        Some(item)
+    } else {
+        None
     }
 }
 
-// A store, its values put into a table in which no name is set: whether it reads and each value is of its name's type.
-pub fn read_store(s: &[u8], types: &[u8], cells: &mut [u64]) -> bool
-    requires { Blank cells.old × (length types.now ≤ 256) }
-    ensures { StoreAs types.now (stored (length types.now) s.now 0) cells.new result }
+// A store of names of these types, if it reads and each value is of its name's type.
+pub fn read_store(s: &[u8], types: &[u8]) -> Option<Cells>
+    requires { length types.now ≤ 256 }
+    ensures { StoreAs types.now (stored (length types.now) s.now 0) result }
 {
     if !opens(s) {
-        return false;
+        return None;
     }
+    let mut cells = Cells::new();
     let mut p = 5;
-    let mut i = 0;
-    while i < types.len() {
-        match stored_at(s, p, types[i]) {
-            Item::Is(c, next) => {
-                engine_cells::set_cell(cells, i as u64, c);
-                p = next;
-            }
-            Item::No => {
-                return false;
-            }
-        }
-        i += 1;
+    for (i, t) in types.iter().enumerate() {
+        let item = stored_at(s, p, *t)?;
+        cells.set_cell(i as u64, item.cell);
+        p = item.end;
     }
-    p >= s.len()
+    if p >= s.len() { Some(cells) } else { None }
 }
 
 // Whether a byte stands alone in a list of answers.
@@ -190,50 +166,36 @@ fn alone(kind: u8) -> bool
 }
 
 // An answer.
-fn answer_at(s: &[u8], at: usize) -> Item
+fn answer_at(s: &[u8], at: usize) -> Option<Item>
     ensures { AnswerAs (house_answer s.now at) result }
 {
     if at >= s.len() {
-        return Item::No;
+        return None;
     }
     let kind = s[at];
     if alone(kind) {
-        return Item::Is(
-            Cell {
-                kind: kind,
-                word: 0,
-                offset: 0,
-            },
-            at + 1,
-        );
+        return Some(byte_item(kind, at));
     }
     if !value_type(kind) {
-        return Item::No;
+        return None;
     }
     value_behind(s, at + 1, kind)
 }
 
-// A list of answers: how many it has.
-pub fn read_answers(s: &[u8]) -> Told
+// A list of answers: how many it has, if it reads.
+pub fn read_answers(s: &[u8]) -> Option<usize>
     ensures { ListAs s.now (answers s.now 0) result }
 {
     if !opens(s) {
-        return Told::No;
+        return None;
     }
     let mut p = 5;
     let mut n = 0;
     while p < s.len() {
-        match answer_at(s, p) {
-            Item::Is(_, next) => {
-                p = next;
-            }
-            Item::No => {
-                return Told::No;
-            }
-        }
+        p = answer_at(s, p)?.end;
         n += 1;
     }
-    Told::Are(n)
+    Some(n)
 }
 
 // ---- answers a second time
@@ -244,8 +206,8 @@ pub fn answer_again(s: &[u8], at: usize) -> Cell
 {
     Cell {
         kind: read_fields::byte_or(s, at) as u8,
-        word: read_fields::be64(s, at + 1),
-        offset: read_fields::be64(s, at + 1 + 8),
+        word: read_fields::be::<8>(s, at + 1),
+        offset: read_fields::be::<8>(s, at + 1 + 8),
     }
 }
 
@@ -265,33 +227,31 @@ pub fn answer_end(kind: u8, at: usize) -> usize
 
 // ---- a store written
 // What a name holds, or nothing; the place behind it.
-fn put_held(cells: &[u64], x: u64, out: &mut [u8], at: usize) -> usize
-    requires { (x < 65536) × (at + 17 < places) }
+fn put_held(cells: &Cells, x: u64, out: &mut [u8], at: usize) -> usize
+    requires { at + 17 < places }
     ensures { Wrote out.old out.new at result (stored_bytes (store_in cells.now (nm x))) × (result ≤ at + 17) }
 {
-    if engine_cells::kind_in(cells, x) == engine_cells::NOTHING {
+    if cells.get(x).kind == engine_cells::NOTHING {
         write_bytes::put_u8(out, at, engine_cells::NOTHING);
         return at + 1;
     }
-    engine_cells::put_value(cells, x, out, at)
+    cells.put_value(x, out, at)
 }
 
 // What the first n names hold, from a place on; the place behind it.
-fn put_cells(cells: &[u64], n: u64, out: &mut [u8], at: usize) -> usize
+fn put_cells(cells: &Cells, n: u64, out: &mut [u8], at: usize) -> usize
     requires { (n ≤ 256) × (at + 17 * n + 17 < places) }
     ensures { Wrote out.old out.new at result (values_held cells.now 0 n) × (result ≤ at + 17 * n) }
 {
     let mut q = at;
-    let mut x = 0;
-    while x < n {
+    for x in 0..n {
         q = put_held(cells, x, out, q);
-        x += 1;
     }
     q
 }
 
 // The store of n names with its length and version; how many bytes it has.
-pub fn put_store(cells: &[u64], n: u64, out: &mut [u8]) -> usize
+pub fn put_store(cells: &Cells, n: u64, out: &mut [u8]) -> usize
     requires { n ≤ 256 }
     ensures { Wrote out.old out.new 0 result (store_bytes (values_from (store_in cells.now) 0 n)) }
 {

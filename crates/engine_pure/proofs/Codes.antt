@@ -1,5 +1,5 @@
 -- The operators of the codes 1 to 14: which values they take, and how many operands they have.
-use Prim.Native.Nat.{ℕ, zero, suc, ◌+◌, ◌*◌, ◌<◌, ◌≤◌}
+use Prim.Native.Nat.{ℕ, zero, suc, ◌+◌, ◌<◌, ◌≤◌}
 use mathlib.Core.Path.{◌≡◌, refl, sym, ap, subst}
 use mathlib.Core.List.{List}
 use mathlib.Core.Option.{Option, none, some}
@@ -11,8 +11,8 @@ use Rattle.arith.specs.Code.{code1, code2, with_code, one_of, two_of}
 use Rattle.arith.specs.Value.{Val, int, bool}
 use Rattle.arith.specs.Operation.{as_int, as_bool, with_both, apply2, eval}
 use Rattle.record.specs.Shape.{shape_of}
-use Rattle.engine_cells.specs.Cells.{store_in}
-use Rattle.engine_pure.specs.Works.{expr_at, apply_by, operands, Lies}
+use Rattle.machine.specs.Machine.{Store}
+use Rattle.engine_pure.specs.Works.{expr_at, apply_by, operands}
 
 -- ---- a property of n numbers in a row, from i on
 module _ (P : ℕ → Type 0) where
@@ -83,17 +83,10 @@ of_bools code h l =
 
 -- ---- a code that is known
 module _ (code n : ℕ) where
-  pub lies :
-      (s : List ℕ) (at : ℕ) (cells : List ℕ) →
-      operands code ≡ n →
-      Lies s at (3 + 2 * operands code) cells →
-      Lies s at (3 + 2 * n) cells
-  lies s at cells e h = subst (λ (m : ℕ). Lies s at (3 + 2 * m) cells) e h
-
   pub at_code :
-      (cells s : List ℕ) (at : ℕ) → code ≡ n →
-      eval (store_in cells) (expr_at code s at) ≡ eval (store_in cells) (expr_at n s at)
-  at_code cells s at e = ap (λ (c : ℕ). eval (store_in cells) (expr_at c s at)) e
+      (σ : Store) (s : List ℕ) (at : ℕ) → code ≡ n →
+      eval σ (expr_at code s at) ≡ eval σ (expr_at n s at)
+  at_code σ s at e = ap (λ (c : ℕ). eval σ (expr_at c s at)) e
 
   pub by_code : (u v : Val) → code ≡ n → apply_by (two_of code) u v ≡ apply_by (two_of n) u v
   by_code u v e = ap (λ (c : ℕ). apply_by (two_of c) u v) e

@@ -1,5 +1,4 @@
 pub mod Works
+pub mod Literals
 pub mod Codes
 pub mod Evals
-pub mod Operands
-pub mod Literals

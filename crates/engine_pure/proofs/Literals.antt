@@ -1,13 +1,11 @@
 -- The value of a literal by the type byte under which its cell holds it.
 use Prim.Native.Nat.{ℕ, zero, suc, ◌+◌, ◌≤◌}
-use mathlib.Core.Path.{◌≡◌, refl, sym, ap, ◌∙◌}
+use mathlib.Core.Path.{◌≡◌, refl, ap, ◌∙◌}
 use mathlib.Core.Logic.{◌≢◌}
 use mathlib.Core.List.{List}
 use mathlib.Core.Option.{some}
-use mathlib.Core.Bool.{Bool, true, false, not}
 use native.Mathlib.Omega.{arith}
 use lib.ListN.{get_or}
-use lib.Dec.{eqb}
 use borrow.Author.Tests.{eq-eqb, ne_eqb}
 use Rattle.arith.specs.Value.{Val, tfloat}
 use Rattle.arith.specs.Map.{upd}
@@ -17,6 +15,7 @@ use Rattle.record.specs.Decode.{index_from}
 use Rattle.record.specs.Form.{value_of}
 use Rattle.running.specs.House.{held}
 use Rattle.running.specs.Items.{plain_from}
+use Rattle.engine_cells.specs.declared.Cells.{Cells}
 use Rattle.engine_cells.specs.Cells.{store_in}
 
 module _ (t : ℕ) where
@@ -38,18 +37,10 @@ module _ (t : ℕ) where
   by_kind (suc (suc (suc zero))) x n h = refl
   by_kind (suc (suc (suc (suc k)))) x n h = absurd (omega arith)
 
--- ---- a bool as a word
-module _ (b : Bool) (n : ℕ) where
-  pub word_true : b ≡ true → n ≡ 1 → not (eqb n 0) ≡ b
-  word_true e f = ap (λ (m : ℕ). not (eqb m 0)) f ∙ sym e
-
-  pub word_false : b ≡ false → n ≡ 0 → not (eqb n 0) ≡ b
-  word_false e f = ap (λ (m : ℕ). not (eqb m 0)) f ∙ sym e
-
 -- ---- the literal of an instruction, set
 -- d: its name, t: the type of that, n: the literal's kind, w: its word, k: the type byte of its cell
 pub literal_set :
-    (before after s types : List ℕ) (at d t n w k : ℕ) →
+    (before after : Cells) (s types : List ℕ) (at d t n w k : ℕ) →
     d ≡ num_at s at 2 →
     t ≡ get_or types d 0 →
     n ≡ num_at s (at + 2) 1 →

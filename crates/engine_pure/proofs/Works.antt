@@ -1,63 +1,64 @@
--- What became of the cells, said of an equal name and an equal result; and a division's answer in code.
+-- What the code tells of a result: that of an operand, of an int and of a cell; and what became of the cells.
 use Prim.Native.Nat.{ℕ}
-use mathlib.Core.Path.{◌≡◌, refl, sym, ap, ◌∙◌, subst, subst₂}
-use mathlib.Core.List.{List}
+use mathlib.Core.Path.{◌≡◌, refl, sym, ap, ◌∙◌}
 use mathlib.Core.Option.{Option, none, some}
+use Rattle.std.proofs.Common.{Option as CodeOption, None, Some, Ok, Err}
+use Rattle.std.specs.Option.{ok_or}
 use Rattle.arith.specs.Map.{upd}
 use Rattle.arith.specs.Value.{Val, int}
-use Rattle.arith.specs.Operation.{by_zero, Result, ok, stops, unset, divide}
-use Rattle.arith.proofs.Clash.{clash}
+use Rattle.arith.specs.Operation.{Result, ok, stops, unset, divide}
 use Rattle.arith.proofs.Operation.{divide_either}
-use Rattle.words.specs.View.{result_of}
+use Rattle.words.specs.View.{quotient_of, result_of}
 use Rattle.record.specs.declared.NameIx.{NameIx}
-use Rattle.record.specs.Record.{nm, NameIx-discrete}
-use Rattle.record.specs.Reader.{num_at}
-use Rattle.record.specs.Decode.{index_from}
+use Rattle.record.specs.Record.{NameIx-discrete}
+use Rattle.engine_cells.specs.declared.Cells.{Cells}
 use Rattle.engine_cells.specs.Cells.{store_in}
-use Rattle.engine_pure.specs.declared.Worked.{Worked}
-use Rattle.engine_pure.specs.declared.Worked.TheVariants.{Done, Stops, Unset}
-use Rattle.engine_pure.specs.Works.{Works}
+use Rattle.engine_pure.specs.declared.Stop.{Stop}
+use Rattle.engine_pure.specs.declared.Stop.TheVariants.{Division, Unset}
+use Rattle.engine_pure.specs.Works.{Works, told, ints_held}
+
+-- ---- an operand that was read, or was not; e: the reason that stands for none
+module _ {A E : Type 0} (o : CodeOption A) (e : E) where
+  pub read_some : (a : A) → Ok a ≡ ok_or o e → Some a ≡ o
+  read_some a h = elim o as (λ p. Ok a ≡ ok_or p e → Some a ≡ p) [ None ↦ (λ q. absurd (cc q)) | Some b ↦ (λ q. cc q) ] h
+
+  pub read_none : (k : E) → Err k ≡ ok_or o e → (None ≡ o) × (k ≡ e)
+  read_none k h =
+      elim o as (λ p. Err k ≡ ok_or p e → (None ≡ p) × (k ≡ e))
+      [ None ↦ (λ q. (refl, cc q)) | Some b ↦ (λ q. absurd (cc q)) ] h
 
 -- ---- a result that is known
-module _ (cells : List ℕ) (d : NameIx) (p : Result) where
-  pub sets_none : p ≡ unset → Works cells cells d p Unset
-  unfolding Works
-  sets_none e = subst (λ q. Works cells cells d q Unset) (sym e) (refl, refl)
+pub told_ok : {p : Result} {v : Val} → p ≡ ok v → Ok (some v) ≡ told p
+unfolding told
+told_ok e = sym (ap told e)
 
-  pub halts : p ≡ stops by_zero → Works cells cells d p Stops
-  unfolding Works
-  halts e = subst (λ q. Works cells cells d q Stops) (sym e) (refl, refl)
+pub told_unset : {p : Result} {k : Stop} → k ≡ Unset → p ≡ unset → Err k ≡ told p
+unfolding told
+told_unset f e = ap Err f ∙ sym (ap told e)
 
-module _ (before after : List ℕ) where
-  pub sets :
-      (d : NameIx) (v : Val) (u : Option Val) →
-      u ≡ some v →
-      store_in after ≡ upd NameIx-discrete (store_in before) d u →
-      Works before after d (ok v) Done
-  unfolding Works
-  sets d v u e h = (refl, h ∙ ap (upd NameIx-discrete (store_in before) d) e)
+-- ---- what became of the cells
+pub works_none : (cells : Cells) (d : NameIx) (p : Result) (k : Stop) → Err k ≡ told p → Works cells cells d p (Err k)
+unfolding Works told
+works_none cells d (ok v) k e = absurd (cc e)
+works_none cells d (stops c) k e = let f : k ≡ Division = cc e in (ap Err f, refl)
+works_none cells d unset k e = let f : k ≡ Unset = cc e in (ap Err f, refl)
 
-  -- ---- what was said of one result and name is said of another
-  pub as_result : (d : NameIx) (p q : Result) (r : Worked) → q ≡ p → Works before after d p r → Works before after d q r
-  as_result d p q r e w = subst (λ o. Works before after d o r) (sym e) w
-
-  -- the name whose index stands at a place
-  pub as_read :
-      (s : List ℕ) (at d : ℕ) (p q : Result) (r : Worked) →
-      d ≡ num_at s at 2 →
-      q ≡ p →
-      Works before after (nm d) p r →
-      Works before after (index_from s at) q r
-  unfolding index_from
-  as_read s at d p q r e f w = subst₂ (λ x o. Works before after (nm x) o r) e (sym f) w
+-- u: what the cell holds that was put into dest's place
+pub works_some :
+    (before after : Cells) (d : NameIx) (p : Result) (u : Option Val) →
+    Ok u ≡ told p →
+    store_in after ≡ upd NameIx-discrete (store_in before) d u →
+    Works before after d p (Ok tt)
+unfolding Works told
+works_some before after d (ok v) u e h = let f : u ≡ some v = cc e in (refl, h ∙ ap (upd NameIx-discrete (store_in before) d) f)
+works_some before after d (stops c) u e h = absurd (cc e)
+works_some before after d unset u e h = absurd (cc e)
 
 -- ---- the answer of a division
-module _ (a b : ℕ) where
-  pub quotient_is : (w : ℕ) → some (int w) ≡ result_of (divide a b) → divide a b ≡ ok (int w)
-  unfolding result_of
-  quotient_is w e =
-      divide_either (λ q. some (int w) ≡ result_of q → q ≡ ok (int w)) a b (λ h. clash (cc h)) (λ h. cc h) e
-
-  pub quotient_stops : none ≡ result_of (divide a b) → divide a b ≡ stops by_zero
-  unfolding result_of
-  quotient_stops e = divide_either (λ q. none ≡ result_of q → q ≡ stops by_zero) a b (λ h. refl) (λ h. clash (cc h)) e
+pub told_quotient :
+    (a b : ℕ) (q : CodeOption ℕ) → quotient_of q ≡ result_of (divide a b) → ints_held (ok_or q Division) ≡ told (divide a b)
+unfolding quotient_of result_of told
+told_quotient a b (Some w) e =
+    divide_either (λ r. some (int w) ≡ result_of r → Ok (some (int w)) ≡ told r) a b (λ h. absurd (cc h)) (λ h. ap Ok h) e
+told_quotient a b None e =
+    divide_either (λ r. none ≡ result_of r → Err Division ≡ told r) a b (λ h. refl) (λ h. absurd (cc h)) e

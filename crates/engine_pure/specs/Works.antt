@@ -1,5 +1,5 @@
--- What const and the codes 1 to 14 do to the table of cells, by the operations of the machine. at: the place behind a code, where dest stands.
-use Rattle.std.specs.Prelude.{ℕ, ◌+◌, ◌*◌, ◌<◌, ◌≤◌, List, ◌≡◌, length}
+-- What const and the codes 1 to 14 do to the cells, by the operations of the machine. at: the place behind a code, where dest stands.
+use Rattle.std.specs.Prelude.{ℕ, ◌+◌, ◌<◌, ◌≤◌, List, ◌≡◌, length, Result as CodeResult, Ok, Err}
 use Rattle.std.proofs.Math.Option.{Option, none, some}
 use Rattle.arith.specs.declared.One.{One}
 use Rattle.arith.specs.declared.Two.{Two}
@@ -12,15 +12,36 @@ use Rattle.record.specs.Record.{NameIx-discrete}
 use Rattle.record.specs.Shape.{shape_of}
 use Rattle.record.specs.Reader.{num_at}
 use Rattle.record.specs.Decode.{index_from}
-use Rattle.engine_cells.specs.Cells.{store_in}
-use Rattle.engine_pure.specs.declared.Worked.{Worked}
-use Rattle.engine_pure.specs.declared.Worked.TheVariants.{Done, Stops, Unset}
+use Rattle.engine_cells.specs.declared.Cell.{Cell}
+use Rattle.engine_cells.specs.declared.Cells.{Cells}
+use Rattle.engine_cells.specs.Cells.{cell_holds, store_in}
+use Rattle.engine_pure.specs.declared.Stop.{Stop}
+use Rattle.engine_pure.specs.declared.Stop.TheVariants.{Division, Unset}
+
+-- ---- results in the code
+-- what is held then, or why it is nothing
+abbrev pub Told : Type 0
+Told = CodeResult (Option Val) Stop
+
+unfoldable pub told : Result → Told
+told (ok v) = Ok (some v)
+told (stops c) = Err Division
+told unset = Err Unset
+
+-- by the word of an int, or by a cell
+abbrev pub ints_held : CodeResult ℕ Stop → Told
+ints_held (Ok w) = Ok (some (int w))
+ints_held (Err e) = Err e
+
+abbrev pub cells_held : CodeResult Cell Stop → Told
+cells_held (Ok c) = Ok (cell_holds c)
+cells_held (Err e) = Err e
 
 -- a result put into dest's cell; where there is none, no cell changes
-unfoldable pub Works : List ℕ → List ℕ → NameIx → Result → Worked → Type 0
-Works before after d (ok v) r = (r ≡ Done) × (store_in after ≡ upd NameIx-discrete (store_in before) d (some v))
-Works before after d (stops c) r = (r ≡ Stops) × (after ≡ before)
-Works before after d unset r = (r ≡ Unset) × (after ≡ before)
+unfoldable pub Works : Cells → Cells → NameIx → Result → CodeResult Unit Stop → Type 0
+Works before after d (ok v) r = (r ≡ Ok tt) × (store_in after ≡ upd NameIx-discrete (store_in before) d (some v))
+Works before after d (stops c) r = (r ≡ Err Division) × (after ≡ before)
+Works before after d unset r = (r ≡ Err Unset) × (after ≡ before)
 
 -- ---- the expression of an operation
 abbrev pub expr_by : Option One → Option Two → NameIx → NameIx → Expr NameIx
@@ -42,5 +63,5 @@ abbrev pub operands : ℕ → ℕ
 operands code = (shape_of code).few
 
 -- ---- so many bytes of operands lie in the record, and dest has a cell
-abbrev pub Lies : List ℕ → ℕ → ℕ → List ℕ → Type 0
-Lies s at n cells = (at + n ≤ length s) × (3 * num_at s at 2 + 2 < length cells)
+abbrev pub Lies : List ℕ → ℕ → ℕ → Type 0
+Lies s at n = (at + n ≤ length s) × (num_at s at 2 < 256)

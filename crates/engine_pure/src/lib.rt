@@ -3,6 +3,7 @@
 #![tactic(auto)]
 
 ghost use Rattle.std.specs.Prelude.{◌≡◌, ℕ, ◌+◌, ◌*◌, ◌<◌, ◌≤◌, length};
+ghost use Rattle.std.specs.Option.{ok_or};
 ghost use Rattle.std.proofs.Math.Option.{some};
 ghost use Rattle.arith.specs.declared.One.TheVariants.{Not, Id};
 ghost use Rattle.arith.specs.declared.Two.TheVariants.{PtrAdd};
@@ -10,67 +11,63 @@ ghost use Rattle.arith.specs.Code.{two_of};
 ghost use Rattle.arith.specs.Map.{upd};
 ghost use Rattle.arith.specs.Value.{int, bool};
 ghost use Rattle.arith.specs.Operation.{ok, one, two, divide, eval};
-ghost use Rattle.record.specs.Record.{nm, NameIx-discrete, type_in};
+ghost use Rattle.record.specs.Record.{NameIx-discrete, type_in};
 ghost use Rattle.record.specs.Form.{value_of};
 ghost use Rattle.record.specs.Reader.{num_at};
 ghost use Rattle.record.specs.Decode.{index_from};
 ghost use Rattle.running.specs.House.{held};
 ghost use Rattle.running.specs.Items.{plain_from};
-ghost use Rattle.engine_cells.specs.Cells.{store_in};
-ghost use Rattle.engine_pure.specs.Works.{Works, expr_at, apply_by, operands, Lies};
+ghost use Rattle.engine_cells.specs.Cells.{int_held, bool_held, cell_holds, store_in};
+ghost use Rattle.engine_pure.specs.Works.{Works, told, ints_held, cells_held, expr_at, apply_by, operands, Lies};
 
-use engine_cells::Cell;
-use words::Quotient;
+use engine_cells::{Cell, Cells};
 
-// Done, with dest set; stopped by a division; or an operand is not set.
+// Why an operation gives no value: a division by 0, or an operand that is not set.
 #[derive(Clone, Copy)]
-pub enum Worked {
-    Done,
-    Stops,
+pub enum Stop {
+    Division,
     Unset,
 }
 
-// ---- results put into a name's cell
+// ---- operands, whose names stand at a place
 // An int.
-fn give_int(cells: &mut [u64], d: u64, w: u64) -> Worked
-    requires { (d < 65536) × (3 * d + 2 < length cells.old) }
-    ensures { Works cells.old cells.new (nm d) (ok (int w)) result }
+fn int_at(s: &[u8], at: usize, cells: &Cells) -> Result<u64, Stop>
+    requires { at + 1 < length s.now }
+    ensures { result ≡ ok_or (int_held (store_in cells.now (index_from s.now at))) Stop.Unset }
 {
-    engine_cells::set_plain(cells, d, engine_cells::INT, w);
-    Worked::Done
+    cells
+        .int(read_fields::number_of::<2>(s, at))
+        .ok_or(Stop::Unset)
 }
 
 // A bool.
-fn give_bool(cells: &mut [u64], d: u64, b: bool) -> Worked
-    requires { (d < 65536) × (3 * d + 2 < length cells.old) }
-    ensures { Works cells.old cells.new (nm d) (ok (bool b)) result }
+fn bool_at(s: &[u8], at: usize, cells: &Cells) -> Result<bool, Stop>
+    requires { at + 1 < length s.now }
+    ensures { result ≡ ok_or (bool_held (store_in cells.now (index_from s.now at))) Stop.Unset }
 {
-    engine_cells::set_plain(cells, d, engine_cells::BOOL, if b { 1 } else { 0 });
-    Worked::Done
+    cells
+        .bool(read_fields::number_of::<2>(s, at))
+        .ok_or(Stop::Unset)
 }
 
 // ---- operations
 // div
-fn divide(cells: &mut [u64], d: u64, a: u64, b: u64) -> Worked
-    requires { (d < 65536) × (3 * d + 2 < length cells.old) }
-    ensures { Works cells.old cells.new (nm d) (divide a b) result }
+fn divide(a: u64, b: u64) -> Result<u64, Stop>
+    ensures { ints_held result ≡ told (divide a b) }
 {
-    match words::divide(a, b) {
-        Quotient::Is(q) => give_int(cells, d, q),
-        Quotient::Stops => Worked::Stops,
-    }
+    words::divide(a, b).ok_or(Stop::Division)
 }
 
 // add, sub, mul and div
-fn sum(cells: &mut [u64], code: u64, d: u64, a: u64, b: u64) -> Worked
-    requires { ((1 ≤ code) × (code ≤ 4)) × ((d < 65536) × (3 * d + 2 < length cells.old)) }
-    ensures { Works cells.old cells.new (nm d) (apply_by (two_of code) (int a) (int b)) result }
+fn sum(code: u64, a: u64, b: u64) -> Result<u64, Stop>
+    requires { (1 ≤ code) × (code ≤ 4) }
+    ensures { ints_held result ≡ told (apply_by (two_of code) (int a) (int b)) }
 {
     match code {
-        1 => give_int(cells, d, words::add(a, b)),
-        2 => give_int(cells, d, words::sub(a, b)),
-        3 => give_int(cells, d, words::mul(a, b)),
-        _ => divide(cells, d, a, b),
+        1 => Ok(words::add(a, b)),
+        2 => Ok(words::sub(a, b)),
+        3 => Ok(words::mul(a, b)),
+        _ => divide(a, b),
     }
 }
 
@@ -89,117 +86,71 @@ fn compared(code: u64, a: u64, b: u64) -> bool
 }
 
 // add to ge, of two ints
-fn of_ints(s: &[u8], at: usize, code: u64, cells: &mut [u64]) -> Worked
-    requires { ((1 ≤ code) × (code ≤ 9)) × Lies s.now at 7 cells.old }
-    ensures { Works cells.old cells.new (index_from s.now at)
-        (eval (store_in cells.old) (expr_at code s.now at)) result }
+fn of_ints(s: &[u8], at: usize, code: u64, cells: &Cells) -> Result<Cell, Stop>
+    requires { ((1 ≤ code) × (code ≤ 9)) × (at + 7 ≤ length s.now) }
+    ensures { cells_held result ≡ told (eval (store_in cells.now) (expr_at code s.now at)) }
 {
-    let x = read_fields::two_of(s, at + 3);
-    let y = read_fields::two_of(s, at + 5);
-    if engine_cells::kind_in(cells, x) != engine_cells::INT {
-        return Worked::Unset;
-    }
-    if engine_cells::kind_in(cells, y) != engine_cells::INT {
-        return Worked::Unset;
-    }
-    let a = engine_cells::word_in(cells, x);
-    let b = engine_cells::word_in(cells, y);
-    let d = read_fields::two_of(s, at);
+    let a = int_at(s, at + 3, cells)?;
+    let b = int_at(s, at + 5, cells)?;
     if code < 5 {
-        return sum(cells, code, d, a, b);
+        return Ok(Cell::int(sum(code, a, b)?));
     }
-    give_bool(cells, d, compared(code, a, b))
+    Ok(Cell::bool(compared(code, a, b)))
 }
 
 // and and or, of two bools
-fn of_bools(s: &[u8], at: usize, code: u64, cells: &mut [u64]) -> Worked
-    requires { ((11 ≤ code) × (code ≤ 12)) × Lies s.now at 7 cells.old }
-    ensures { Works cells.old cells.new (index_from s.now at)
-        (eval (store_in cells.old) (expr_at code s.now at)) result }
+fn of_bools(s: &[u8], at: usize, code: u64, cells: &Cells) -> Result<Cell, Stop>
+    requires { ((11 ≤ code) × (code ≤ 12)) × (at + 7 ≤ length s.now) }
+    ensures { cells_held result ≡ told (eval (store_in cells.now) (expr_at code s.now at)) }
 {
-    let x = read_fields::two_of(s, at + 3);
-    let y = read_fields::two_of(s, at + 5);
-    if engine_cells::kind_in(cells, x) != engine_cells::BOOL {
-        return Worked::Unset;
-    }
-    if engine_cells::kind_in(cells, y) != engine_cells::BOOL {
-        return Worked::Unset;
-    }
-    let a = engine_cells::word_in(cells, x) != 0;
-    let b = engine_cells::word_in(cells, y) != 0;
-    let d = read_fields::two_of(s, at);
+    let a = bool_at(s, at + 3, cells)?;
+    let b = bool_at(s, at + 5, cells)?;
     if code == 11 {
-        return give_bool(cells, d, a & b);
+        return Ok(Cell::bool(a & b));
     }
-    give_bool(cells, d, a | b)
+    Ok(Cell::bool(a | b))
 }
 
 // not
-fn negate(s: &[u8], at: usize, cells: &mut [u64]) -> Worked
-    requires { Lies s.now at 5 cells.old }
-    ensures { Works cells.old cells.new (index_from s.now at)
-        (eval (store_in cells.old) (one Not (index_from s.now (at + 3)))) result }
+fn negate(s: &[u8], at: usize, cells: &Cells) -> Result<Cell, Stop>
+    requires { at + 5 ≤ length s.now }
+    ensures { cells_held result ≡ told (eval (store_in cells.now) (one Not (index_from s.now (at + 3)))) }
 {
-    let x = read_fields::two_of(s, at + 3);
-    if engine_cells::kind_in(cells, x) != engine_cells::BOOL {
-        return Worked::Unset;
-    }
-    let b = engine_cells::word_in(cells, x) == 0;
-    give_bool(cells, read_fields::two_of(s, at), b)
+    Ok(Cell::bool(!bool_at(s, at + 3, cells)?))
 }
 
 // id
-fn copy(s: &[u8], at: usize, cells: &mut [u64]) -> Worked
-    requires { Lies s.now at 5 cells.old }
-    ensures { Works cells.old cells.new (index_from s.now at)
-        (eval (store_in cells.old) (one Id (index_from s.now (at + 3)))) result }
+fn copy(s: &[u8], at: usize, cells: &Cells) -> Result<Cell, Stop>
+    requires { at + 5 ≤ length s.now }
+    ensures { cells_held result ≡ told (eval (store_in cells.now) (one Id (index_from s.now (at + 3)))) }
 {
-    let x = read_fields::two_of(s, at + 3);
-    let kind = engine_cells::kind_in(cells, x);
-    if kind == engine_cells::NOTHING {
-        return Worked::Unset;
+    let c = cells.get(read_fields::number_of::<2>(s, at + 3));
+    if c.kind == engine_cells::NOTHING {
+        return Err(Stop::Unset);
     }
-    let c = Cell {
-        kind: kind,
-        word: engine_cells::word_in(cells, x),
-        offset: engine_cells::offset_in(cells, x),
-    };
-    engine_cells::set_cell(cells, read_fields::two_of(s, at), c);
-    Worked::Done
+    Ok(c)
 }
 
 // ptradd
-fn shift(s: &[u8], at: usize, cells: &mut [u64]) -> Worked
-    requires { Lies s.now at 7 cells.old }
-    ensures { Works cells.old cells.new (index_from s.now at)
-        (eval (store_in cells.old) (two PtrAdd (index_from s.now (at + 3)) (index_from s.now (at + 5)))) result }
+fn shift(s: &[u8], at: usize, cells: &Cells) -> Result<Cell, Stop>
+    requires { at + 7 ≤ length s.now }
+    ensures { cells_held result ≡ told (eval (store_in cells.now) (two PtrAdd (index_from s.now (at + 3)) (index_from s.now (at + 5)))) }
 {
-    let x = read_fields::two_of(s, at + 3);
-    let y = read_fields::two_of(s, at + 5);
-    let kind = engine_cells::kind_in(cells, x);
-    if (kind <= engine_cells::HELD) | (kind == engine_cells::NOTHING) {
-        return Worked::Unset;
+    let p = cells.get(read_fields::number_of::<2>(s, at + 3));
+    if (p.kind <= engine_cells::HELD) | (p.kind == engine_cells::NOTHING) {
+        return Err(Stop::Unset);
     }
-    if engine_cells::kind_in(cells, y) != engine_cells::INT {
-        return Worked::Unset;
-    }
-    let c = Cell {
-        kind: kind,
-        word: engine_cells::word_in(cells, x),
-        offset: words::add(
-            engine_cells::offset_in(cells, x),
-            engine_cells::word_in(cells, y),
-        ),
-    };
-    engine_cells::set_cell(cells, read_fields::two_of(s, at), c);
-    Worked::Done
+    let k = int_at(s, at + 5, cells)?;
+    Ok(Cell {
+        offset: words::add(p.offset, k),
+        ..p
+    })
 }
 
-// Codes 1 to 14. not and id have one operand, the others two.
-pub fn operate(s: &[u8], at: usize, code: u64, cells: &mut [u64]) -> Worked
-    requires { ((1 ≤ code) × (code ≤ 14)) × Lies s.now at (3 + 2 * operands code) cells.old }
-    ensures { Works cells.old cells.new (index_from s.now at)
-        (eval (store_in cells.old) (expr_at code s.now at)) result }
+// The value of the codes 1 to 14. not and id have one operand, the others two.
+fn value(s: &[u8], at: usize, code: u64, cells: &Cells) -> Result<Cell, Stop>
+    requires { ((1 ≤ code) × (code ≤ 14)) × (at + (3 + 2 * operands code) ≤ length s.now) }
+    ensures { cells_held result ≡ told (eval (store_in cells.now) (expr_at code s.now at)) }
 {
     match code {
         0..=9 => of_ints(s, at, code, cells),
@@ -208,6 +159,17 @@ pub fn operate(s: &[u8], at: usize, code: u64, cells: &mut [u64]) -> Worked
         13 => copy(s, at, cells),
         _ => shift(s, at, cells),
     }
+}
+
+// Codes 1 to 14.
+pub fn operate(s: &[u8], at: usize, code: u64, cells: &mut Cells) -> Result<(), Stop>
+    requires { ((1 ≤ code) × (code ≤ 14)) × Lies s.now at (3 + 2 * operands code) }
+    ensures { Works cells.old cells.new (index_from s.now at)
+        (eval (store_in cells.old) (expr_at code s.now at)) result }
+{
+    let c = value(s, at, code, cells)?;
+    cells.set_cell(read_fields::number_of::<2>(s, at), c);
+    Ok(())
 }
 
 // ---- const
@@ -227,16 +189,16 @@ fn literal_kind(kind: u64, t: u64) -> u8
 }
 
 // const; its literal passes check's tests.
-pub fn constant(s: &[u8], at: usize, types: &[u8], cells: &mut [u64])
-    requires { (num_at s.now (at + 2) 1 ≤ 3) × Lies s.now at 11 cells.old }
+pub fn constant(s: &[u8], at: usize, types: &[u8], cells: &mut Cells)
+    requires { (num_at s.now (at + 2) 1 ≤ 3) × Lies s.now at 11 }
     ensures { store_in cells.new ≡
         upd NameIx-discrete (store_in cells.old) (index_from s.now at)
         (some (value_of (type_in types.now (index_from s.now at)) (num_at s.now (at + 2) 1) (num_at s.now (at + 3) 8))) }
 {
-    let d = read_fields::two_of(s, at);
+    let d = read_fields::number_of::<2>(s, at);
     let kind = literal_kind(
         read_fields::byte_or(s, at + 2),
         read_fields::byte_or(types, d as usize),
     );
-    engine_cells::set_plain(cells, d, kind, read_fields::be64(s, at + 3));
+    cells.set_plain(d, kind, read_fields::be::<8>(s, at + 3));
 }

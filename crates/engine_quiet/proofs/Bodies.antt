@@ -1,6 +1,6 @@
 -- The instructions of a block one by one: the first passes its tests and lies in the record, and so do the others behind it.
 use Prim.Native.Nat.{ℕ, ◌+◌, ◌-◌, ◌<◌, ◌≤◌}
-use mathlib.Core.Path.{◌≡◌, subst}
+use mathlib.Core.Path.{subst}
 use mathlib.Core.List.{List}
 use native.Mathlib.Omega.{arith}
 use lib.ListN.{length}
@@ -8,8 +8,9 @@ use Rattle.record.specs.Decode.{id_width, names_count, instr_from, instr_end}
 use Rattle.record.specs.Again.{Passes, Passing}
 use Rattle.record.proofs.Again.{instrs_more, end_more}
 use Rattle.record.proofs.Ends.{instr_on, instrs_grow}
+use Rattle.engine_quiet.specs.declared.Ground.{Ground}
 use Rattle.engine_quiet.specs.declared.Spot.{Spot}
-use Rattle.engine_quiet.specs.Spot.{body_at, Sound, Standing}
+use Rattle.engine_quiet.specs.Spot.{body_at, Sound, Facing}
 
 -- ---- the first of some instructions, and the rest
 module _ (s : List ℕ) (at n : ℕ) (sound : Sound s at n) (h : 0 < n) where
@@ -36,6 +37,5 @@ module _ (s : List ℕ) (at n : ℕ) (sound : Sound s at n) (h : 0 < n) where
   head_inside = omega (arith, instr_on (id_width s) s at, first_inside)
 
 -- ---- a spot with instructions left
--- w: the bytes of an id
-pub code_inside : (s starts : List ℕ) (p : Spot) (w : ℕ) → Standing s starts p → 0 < p.left → w ≡ id_width s → p.at + w + 1 ≤ length s
-code_inside s starts p w st h e = omega (arith, head_inside s p.at p.left st.sound h, e)
+pub code_inside : {g : Ground} {p : Spot} → Facing g p → p.at + g.w + 1 ≤ length g.s.now
+code_inside {g} {p} f = omega (arith, head_inside g.s.now p.at p.left f.standing.sound f.some, f.grounded.width)

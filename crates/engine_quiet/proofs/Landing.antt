@@ -1,7 +1,6 @@
 -- Where a run lands: at the first block from a number on that has an instruction, by the table of the blocks' places.
 use Prim.Native.Nat.{ℕ, zero, suc, ◌+◌, ◌-◌, ◌<◌, ◌≤◌}
 use mathlib.Core.Path.{◌≡◌, refl, sym, ap, ◌∙◌}
-use mathlib.Core.Logic.{◌≢◌}
 use mathlib.Core.List.{List, [], ◌∷◌, map}
 use native.Mathlib.Omega.{arith}
 use lib.ListN.{length, get_or, drop}
@@ -13,8 +12,10 @@ use Rattle.record.proofs.Again.{instrs_more}
 use Rattle.record.proofs.Ends.{block_body}
 use Rattle.machine.specs.Machine.{at_end}
 use Rattle.running.specs.Steps.{Stand, facing, over, first_of, land_in, land}
+use Rattle.engine_quiet.specs.declared.Ground.{Ground}
+use Rattle.engine_quiet.specs.declared.Over.TheVariants.{End}
 use Rattle.engine_quiet.specs.declared.Spot.{Spot}
-use Rattle.engine_quiet.specs.Spot.{stop_by, unfit_number, laid_out, body_at, Sound, Grounded, Standing, Landed}
+use Rattle.engine_quiet.specs.Spot.{stop_by, body_at, blocks_of, Sound, Grounded, Standing, Landed}
 use Rattle.engine_quiet.proofs.Bodies.{rest_sound}
 
 -- ---- the table
@@ -54,28 +55,29 @@ pub none_sound : (s : List ℕ) (at : ℕ) → at ≤ length s → Sound s at 0
 unfolding instrs_from items instrs_end behind
 none_sound s at h = record { passing = tt; inside = h }
 
-pub over_stands : (s starts : List ℕ) (p : Spot) → p.left ≡ 0 → p.at ≤ length s → Standing s starts p
-over_stands s starts p z h =
+pub over_stands : (g : Ground) (p : Spot) → p.left ≡ 0 → p.at ≤ length g.s.now → Standing g p
+over_stands g p z h =
     record {
-      sound = rw z (none_sound s p.at h);
+      sound = rw z (none_sound g.s.now p.at h);
       placed = λ some. absurd (omega (arith, z, some));
     }
 
--- over is not unfit
-pub stops_so : (k : ℕ) → k < unfit_number → k ≢ unfit_number
-stops_so k h e = omega (arith, h, e)
-
 -- ---- from a block on
-module _ (s starts : List ℕ) where
+module _ (g : Ground) where
+  abbrev s : List ℕ
+  s = g.s.now
+
+  abbrev starts : List ℕ
+  starts = g.starts.now
+
   abbrev lands : ℕ → Stand
-  lands c = land (laid_out s starts) c
+  lands c = land (blocks_of g) c
 
   pub land_there :
       (c : ℕ) → c < length starts →
       lands c ≡ first_of c (body_at s (get_or starts c 0 + 2 + 2) (num_at s (get_or starts c 0) 2)) (lands (c + 1))
   unfolding land
   land_there c h =
-      let bs = laid_out s starts in
       let one : c + 1 ≡ suc c = omega arith in
       let next : lands (suc c) ≡ lands (c + 1) = ap lands (sym one) in
       in_table (block_in (id_width s) s) starts c c h ∙
@@ -95,38 +97,38 @@ module _ (s starts : List ℕ) where
       pub land_empty : n ≡ 0 → lands (c + 1) ≡ lands b
       land_empty z = sym (first_none s c (q + 2 + 2) n (lands (c + 1)) z) ∙ sym there ∙ same
 
-      pub land_found : Grounded s starts → 0 < n → Landed s starts (lands b) (record { block = c; at = q + 2 + 2; left = n; stop = 0 })
-      land_found g some =
+      pub land_found : Grounded g → 0 < n → Landed g (lands b) (record { block = c; at = q + 2 + 2; left = n; stop = End })
+      land_found ground some =
           record {
             stand = first_any s c (q + 2 + 2) n _ _ some ∙ sym there ∙ same;
-            standing = record { sound = rw (en, eq) (g.each c h); placed = λ l. h };
-            stop = stops_so 0 (omega arith);
+            standing = record { sound = rw (en, eq) (ground.each c h); placed = λ l. h };
+            stop = λ e. cc e;
           }
 
-    pub land_ended : length starts ≤ c → Landed s starts (lands b) (record { block = c; at = 0; left = 0; stop = 0 })
+    pub land_ended : length starts ≤ c → Landed g (lands b) (record { block = b; at = 0; left = 0; stop = End })
     unfolding instrs_from items stop_by
     land_ended h =
         record {
           stand = sym (land_past c h) ∙ same;
-          standing = over_stands s starts _ refl (omega arith);
-          stop = stops_so 0 (omega arith);
+          standing = over_stands g _ refl (omega arith);
+          stop = λ e. cc e;
         }
 
   -- the next of a block's instructions
-  module _ (p : Spot) (st : Standing s starts p) (h : 0 < p.left) (next : ℕ) (e : next ≡ instr_end (id_width s) s p.at) where
+  module _ (p : Spot) (st : Standing g p) (h : 0 < p.left) (next : ℕ) (e : next ≡ instr_end (id_width s) s p.at) where
     pub went_on :
         (d : Stand) → 1 < p.left →
-        Landed s starts (first_of p.block (body_at s next (p.left - 1)) d)
-        (record { block = p.block; at = next; left = p.left - 1; stop = 0 })
+        Landed g (first_of p.block (body_at s next (p.left - 1)) d)
+        (record { block = p.block; at = next; left = p.left - 1; stop = End })
     went_on d more =
         record {
           stand = first_any s p.block next (p.left - 1) _ _ (omega (arith, more));
           standing = record { sound = rw e (rest_sound s p.at p.left st.sound h); placed = λ l. st.placed h };
-          stop = stops_so 0 (omega arith);
+          stop = λ e. cc e;
         }
 
     -- there is none
     pub went_past :
-        (r : Spot) (d : Stand) → p.left ≤ 1 → Landed s starts d r →
-        Landed s starts (first_of p.block (body_at s next (p.left - 1)) d) r
+        (r : Spot) (d : Stand) → p.left ≤ 1 → Landed g d r →
+        Landed g (first_of p.block (body_at s next (p.left - 1)) d) r
     went_past r d few l = rw (first_none s p.block next (p.left - 1) d (omega (arith, few))) l

@@ -1,7 +1,7 @@
 pub mod Bodies
-pub mod Landing
 pub mod Operands
 pub mod Forms
+pub mod Landing
 pub mod Moved
 pub mod Branching
 pub mod Spots

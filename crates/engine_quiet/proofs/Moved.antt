@@ -6,10 +6,10 @@ use mathlib.Core.List.{List, []}
 use mathlib.Core.Bool.{Bool, true, false, cond}
 use mathlib.Core.Option.{Option, none, some}
 use native.Mathlib.Omega.{arith}
+use Rattle.std.proofs.Common.{Result as CodeResult, Ok, Err}
 use Rattle.arith.specs.Map.{upd}
 use Rattle.arith.specs.Value.{Val}
 use Rattle.arith.specs.Operation.{Result, ok, stops, unset, by_zero, Expr, eval}
-use Rattle.arith.proofs.Clash.{clash}
 use Rattle.record.specs.declared.NameIx.{NameIx}
 use Rattle.record.specs.Record.{NameIx-discrete, Instr, Block, type_in}
 use Rattle.record.specs.Form.{Form, pure, nop, jump, branch, form}
@@ -19,14 +19,18 @@ use Rattle.record.specs.Again.{instrs_from}
 use Rattle.machine.specs.Machine.{Store, Context, Answer, Stop, at_unset, at_division, Mach, tick, assign, finish, choose, bool_in, act, step}
 use Rattle.running.specs.Steps.{Stand, facing, over, first_of, land, moved, step_from, take_step}
 use Rattle.running.specs.Engine.{fits_form, fits, fits_at}
+use Rattle.engine_cells.specs.declared.Cells.{Cells}
 use Rattle.engine_cells.specs.Cells.{store_in}
-use Rattle.engine_pure.specs.declared.Worked.{Worked}
-use Rattle.engine_pure.specs.declared.Worked.TheVariants.{Done, Stops, Unset}
+use Rattle.engine_pure.specs.declared.Stop.{Stop as Stop'}
+use Rattle.engine_pure.specs.declared.Stop.TheVariants as stop
 use Rattle.engine_pure.specs.Works.{Works}
+use Rattle.engine_quiet.specs.declared.Ground.{Ground}
+use Rattle.engine_quiet.specs.declared.Over.{Over}
+use Rattle.engine_quiet.specs.declared.Over.TheVariants.{Unset, Division, Unfit}
 use Rattle.engine_quiet.specs.declared.Spot.{Spot}
-use Rattle.engine_quiet.specs.Spot.{stop_by, unfit_number, laid_out, told_types, body_at, stand_of, at_spot, Standing, Landed, Moved}
+use Rattle.engine_quiet.specs.Spot.{stop_by, told_types, body_at, blocks_of, stand_of, at_spot, Standing, Facing, Landed, Moved}
 use Rattle.engine_quiet.proofs.Bodies.{head_inside}
-use Rattle.engine_quiet.proofs.Landing.{first_some, over_stands, stops_so}
+use Rattle.engine_quiet.proofs.Landing.{first_some, over_stands}
 use Rattle.engine_quiet.proofs.Operands.{id_is}
 
 -- ---- a spot with instructions left
@@ -39,10 +43,10 @@ module _ (s : List ℕ) (p : Spot) where
   rest = body_at s (instr_end (id_width s) s p.at) (p.left - 1)
 
   -- over, where it stands
-  abbrev pub over_at : ℕ → Spot
+  abbrev pub over_at : Over → Spot
   over_at k = record { block = p.block; at = p.at; left = 0; stop = k }
 
-  pub over_stand : (k : ℕ) → stand_of s (over_at k) ≡ over (stop_by k (num_at s p.at (id_width s)))
+  pub over_stand : (k : Over) → stand_of s (over_at k) ≡ over (stop_by k (num_at s p.at (id_width s)))
   unfolding instrs_from items
   over_stand k = refl
 
@@ -61,42 +65,48 @@ module _ (s : List ℕ) (p : Spot) where
       unfolding take_step step
       takes_here = ap (step_from ctx bs m) stands_at
 
-    pub over_standing : (starts : List ℕ) (k : ℕ) → Standing s starts p → Standing s starts (over_at k)
-    over_standing starts k st =
-        over_stands s starts (over_at k) refl (omega (arith, head_inside s p.at p.left st.sound h))
+pub over_standing : (g : Ground) (p : Spot) (k : Over) → Standing g p → 0 < p.left → Standing g (over_at g.s.now p k)
+over_standing g p k st h =
+    over_stands g (over_at g.s.now p k) refl (omega (arith, head_inside g.s.now p.at p.left st.sound h))
 
 -- ---- what an operation left
-module _ (before after : List ℕ) (d : NameIx) where
-  abbrev Left : Worked → Result → Type 0
+module _ (before after : Cells) (d : NameIx) where
+  abbrev Left : CodeResult Unit Stop' → Result → Type 0
   Left w r = Works before after d r w
 
   worked_done :
-      (r : Result) → Left Done r →
+      (r : Result) → Left (Ok tt) r →
       (v : Val) × ((r ≡ ok v) × (store_in after ≡ upd NameIx-discrete (store_in before) d (some v)))
   unfolding Works
   worked_done (ok v) h = (v, (refl, h.1))
-  worked_done (stops c) h = (let e = h.0 in clash (cc))
-  worked_done unset h = (let e = h.0 in clash (cc))
+  worked_done (stops c) h = absurd (cc h.0)
+  worked_done unset h = absurd (cc h.0)
 
-  worked_stops : (r : Result) → Left Stops r → (r ≡ stops by_zero) × (after ≡ before)
+  worked_stops : (r : Result) → Left (Err stop.Division) r → (r ≡ stops by_zero) × (after ≡ before)
   unfolding Works
-  worked_stops (ok v) h = (let e = h.0 in clash (cc))
+  worked_stops (ok v) h = absurd (cc h.0)
   worked_stops (stops by_zero) h = (refl, h.1)
-  worked_stops unset h = (let e = h.0 in clash (cc))
+  worked_stops unset h = absurd (cc h.0)
 
-  worked_unset : (r : Result) → Left Unset r → (r ≡ unset) × (after ≡ before)
+  worked_unset : (r : Result) → Left (Err stop.Unset) r → (r ≡ unset) × (after ≡ before)
   unfolding Works
-  worked_unset (ok v) h = (let e = h.0 in clash (cc))
-  worked_unset (stops c) h = (let e = h.0 in clash (cc))
+  worked_unset (ok v) h = absurd (cc h.0)
+  worked_unset (stops c) h = absurd (cc h.0)
   worked_unset unset h = (refl, h.1)
 
 -- ---- a step without an event
-module _ (s types starts before : List ℕ) (p : Spot) (h : 0 < p.left) (st : Standing s starts p) where
+module _ (g : Ground) (before : Cells) (p : Spot) (facing : Facing g p) where
+  abbrev s : List ℕ
+  s = g.s.now
+
+  abbrev types : List ℕ
+  types = g.types.now
+
   abbrev ctx : Context
   ctx = told_types types
 
   abbrev bs : List (Block Instr)
-  bs = laid_out s starts
+  bs = blocks_of g
 
   -- the store is that of some cells
   abbrev mach : Store → List Answer → ℕ → Mach
@@ -106,19 +116,19 @@ module _ (s types starts before : List ℕ) (p : Spot) (h : 0 < p.left) (st : St
   abbrev pub onward_stand : Stand
   onward_stand = first_of p.block (rest s p) (land bs (p.block + 1))
 
-  module _ (after : List ℕ) (r : Spot) (f : Form) (e : form (type_in types) (here s p) ≡ f) where
+  module _ (after : Cells) (r : Spot) (f : Form) (e : form (type_in types) (here s p) ≡ f) where
     moved_by :
         ((xs : List Answer) → fits_form ctx (here s p) (mach (store_in before) xs 0) f ≡ true) →
         ((xs : List Answer) → moved bs p.block (rest s p) (act ctx (here s p) (mach (store_in before) xs 1) f) ≡ at_spot s after xs r 1) →
-        Standing s starts r →
-        r.stop ≢ unfit_number →
-        Moved s types starts before after p r
+        Standing g r →
+        r.stop ≢ Unfit →
+        Moved g before after p r
     unfolding tick
     moved_by fit take standing stop =
         record {
-          fits = λ xs. fits_here s p h ctx bs (mach (store_in before) xs 0) ∙ ap (fits_form ctx (here s p) (mach (store_in before) xs 0)) e ∙ fit xs;
+          fits = λ xs. fits_here s p facing.some ctx bs (mach (store_in before) xs 0) ∙ ap (fits_form ctx (here s p) (mach (store_in before) xs 0)) e ∙ fit xs;
           takes = λ xs.
-              takes_here s p h ctx bs (mach (store_in before) xs 0) ∙
+              takes_here s p facing.some ctx bs (mach (store_in before) xs 0) ∙
               ap (λ (g : Form). moved bs p.block (rest s p) (act ctx (here s p) (mach (store_in before) xs 1) g)) e ∙
               take xs;
           standing = standing;
@@ -127,7 +137,7 @@ module _ (s types starts before : List ℕ) (p : Spot) (h : 0 < p.left) (st : St
 
   -- to the next instruction, with this store
   goes_on :
-      (after : List ℕ) (r : Spot) (σ : Store) → store_in after ≡ σ → Landed s starts onward_stand r → (xs : List Answer) →
+      (after : Cells) (r : Spot) (σ : Store) → store_in after ≡ σ → Landed g onward_stand r → (xs : List Answer) →
       record { stand = first_of p.block (rest s p) (land bs (suc p.block)); mach = mach σ xs 1 } ≡ at_spot s after xs r 1
   goes_on after r σ e l xs =
       let one : p.block + 1 ≡ suc p.block = omega arith in
@@ -137,31 +147,31 @@ module _ (s types starts before : List ℕ) (p : Spot) (h : 0 < p.left) (st : St
 
   -- to another block
   lands_at :
-      (r : Spot) (b : ℕ) → Landed s starts (land bs b) r → (xs : List Answer) →
+      (r : Spot) (b : ℕ) → Landed g (land bs b) r → (xs : List Answer) →
       record { stand = land bs b; mach = mach (store_in before) xs 1 } ≡ at_spot s before xs r 1
   lands_at r b l xs = λ i. record { stand = sym l.stand i; mach = mach (store_in before) xs 1 }
 
   -- over, by the stop of this number
   ended :
-      (after : List ℕ) (r : Spot) (k : ℕ) (stop : Stop) → stop ≡ stop_by k (num_at s p.at (id_width s)) →
+      (after : Cells) (r : Spot) (k : Over) (stop : Stop) → stop ≡ stop_by k (num_at s p.at (id_width s)) →
       after ≡ before → r ≡ over_at s p k → (xs : List Answer) →
       record { stand = over stop; mach = mach (store_in before) xs 1 } ≡ at_spot s after xs r 1
   ended after r k stop e same eq xs =
       let d : over stop ≡ stand_of s r = ap over e ∙ sym (over_stand s p k) ∙ ap (stand_of s) (sym eq) in
       λ i. record { stand = d i; mach = mach (store_in (sym same i)) xs 1 }
 
-  ended_standing : (r : Spot) (k : ℕ) → r ≡ over_at s p k → Standing s starts r
-  ended_standing r k eq = subst (Standing s starts) (sym eq) (over_standing s p h starts k st)
+  ended_standing : (r : Spot) (k : Over) → r ≡ over_at s p k → Standing g r
+  ended_standing r k eq = subst (Standing g) (sym eq) (over_standing g p k facing.standing facing.some)
 
-  ended_stop : (r : Spot) (k : ℕ) → k < unfit_number → r ≡ over_at s p k → r.stop ≢ unfit_number
-  ended_stop r k less eq = subst (λ (q : Spot). q.stop ≢ unfit_number) (sym eq) (stops_so k less)
+  ended_stop : (r : Spot) (k : Over) → k ≢ Unfit → r ≡ over_at s p k → r.stop ≢ Unfit
+  ended_stop r k other eq = subst (λ (q : Spot). q.stop ≢ Unfit) (sym eq) other
 
   -- an operation, by what it gives
-  module _ (after : List ℕ) (r : Spot) (x : Expr NameIx) (e : form (type_in types) (here s p) ≡ pure x) where
+  module _ (after : Cells) (r : Spot) (x : Expr NameIx) (e : form (type_in types) (here s p) ≡ pure x) where
     pub sets_moved :
         (v : Val) → eval (store_in before) x ≡ ok v →
         store_in after ≡ upd NameIx-discrete (store_in before) (here s p).dest (some v) →
-        Landed s starts onward_stand r → Moved s types starts before after p r
+        Landed g onward_stand r → Moved g before after p r
     unfolding fits_form act finish assign
     sets_moved v gives set l =
         moved_by after r (pure x) e (λ xs. refl)
@@ -170,57 +180,57 @@ module _ (s types starts before : List ℕ) (p : Spot) (h : 0 < p.left) (st : St
         l.standing l.stop
 
     pub division_moved :
-        eval (store_in before) x ≡ stops by_zero → after ≡ before → r ≡ over_at s p 4 → Moved s types starts before after p r
+        eval (store_in before) x ≡ stops by_zero → after ≡ before → r ≡ over_at s p Division → Moved g before after p r
     unfolding fits_form act finish stop_by
     division_moved gives same eq =
         moved_by after r (pure x) e (λ xs. refl)
         (λ xs. ap (λ (z : Result). moved bs p.block (rest s p) (finish (here s p) (mach (store_in before) xs 1) z)) gives ∙
-        ended after r 4 (at_division (here s p).id by_zero) (ap (λ (n : ℕ). at_division n by_zero) (id_is (id_width s) s p.at)) same eq xs)
-        (ended_standing r 4 eq) (ended_stop r 4 (omega arith) eq)
+        ended after r Division (at_division (here s p).id by_zero) (ap (λ (n : ℕ). at_division n by_zero) (id_is (id_width s) s p.at)) same eq xs)
+        (ended_standing r Division eq) (ended_stop r Division (λ q. cc q) eq)
 
     pub unset_moved :
-        eval (store_in before) x ≡ unset → after ≡ before → r ≡ over_at s p 3 → Moved s types starts before after p r
+        eval (store_in before) x ≡ unset → after ≡ before → r ≡ over_at s p Unset → Moved g before after p r
     unfolding fits_form act finish stop_by
     unset_moved gives same eq =
         moved_by after r (pure x) e (λ xs. refl)
         (λ xs. ap (λ (z : Result). moved bs p.block (rest s p) (finish (here s p) (mach (store_in before) xs 1) z)) gives ∙
-        ended after r 3 at_unset refl same eq xs)
-        (ended_standing r 3 eq) (ended_stop r 3 (omega arith) eq)
+        ended after r Unset at_unset refl same eq xs)
+        (ended_standing r Unset eq) (ended_stop r Unset (λ q. cc q) eq)
 
     -- by what an operation answers
-    module _ (worked : Worked) (works : Works before after (here s p).dest (eval (store_in before) x) worked) where
-      pub done_moved : worked ≡ Done → Landed s starts onward_stand r → Moved s types starts before after p r
+    module _ (worked : CodeResult Unit Stop') (works : Works before after (here s p).dest (eval (store_in before) x) worked) where
+      pub done_moved : worked ≡ Ok tt → Landed g onward_stand r → Moved g before after p r
       done_moved w l =
           let (v, g) = worked_done before after (here s p).dest (eval (store_in before) x) (rw w at works) in
           sets_moved v g.0 g.1 l
 
-      pub stops_moved : worked ≡ Stops → r ≡ over_at s p 4 → Moved s types starts before after p r
+      pub stops_moved : worked ≡ Err stop.Division → r ≡ over_at s p Division → Moved g before after p r
       stops_moved w eq =
           let g = worked_stops before after (here s p).dest (eval (store_in before) x) (rw w at works) in
           division_moved g.0 g.1 eq
 
-      pub lacks_moved : worked ≡ Unset → r ≡ over_at s p 3 → Moved s types starts before after p r
+      pub lacks_moved : worked ≡ Err stop.Unset → r ≡ over_at s p Unset → Moved g before after p r
       lacks_moved w eq =
           let g = worked_unset before after (here s p).dest (eval (store_in before) x) (rw w at works) in
           unset_moved g.0 g.1 eq
 
   -- nop
   pub nop_moved :
-      (r : Spot) → form (type_in types) (here s p) ≡ nop → Landed s starts onward_stand r → Moved s types starts before before p r
+      (r : Spot) → form (type_in types) (here s p) ≡ nop → Landed g onward_stand r → Moved g before before p r
   unfolding fits_form act
   nop_moved r e l = moved_by before r nop e (λ xs. refl) (goes_on before r (store_in before) refl l) l.standing l.stop
 
   -- jmp
   pub jump_moved :
-      (r : Spot) (b : ℕ) → form (type_in types) (here s p) ≡ jump b → Landed s starts (land bs b) r →
-      Moved s types starts before before p r
+      (r : Spot) (b : ℕ) → form (type_in types) (here s p) ≡ jump b → Landed g (land bs b) r →
+      Moved g before before p r
   unfolding fits_form act
   jump_moved r b e l = moved_by before r (jump b) e (λ xs. refl) (λ xs. lands_at r b l xs) l.standing l.stop
 
   -- br, by what the name holds
   module _ (r : Spot) (a : NameIx) (b c : ℕ) (e : form (type_in types) (here s p) ≡ branch a b c) where
     pub branch_moved :
-        (d : Bool) → bool_in (store_in before a) ≡ some d → Landed s starts (land bs (cond d b c)) r → Moved s types starts before before p r
+        (d : Bool) → bool_in (store_in before a) ≡ some d → Landed g (land bs (cond d b c)) r → Moved g before before p r
     unfolding fits_form act choose
     branch_moved d holds l =
         moved_by before r (branch a b c) e (λ xs. refl)
@@ -234,10 +244,10 @@ module _ (s types starts before : List ℕ) (p : Spot) (h : 0 < p.left) (st : St
         go true xs = refl
         go false xs = refl
 
-    pub branch_unset : bool_in (store_in before a) ≡ none → r ≡ over_at s p 3 → Moved s types starts before before p r
+    pub branch_unset : bool_in (store_in before a) ≡ none → r ≡ over_at s p Unset → Moved g before before p r
     unfolding fits_form act choose stop_by
     branch_unset holds eq =
         moved_by before r (branch a b c) e (λ xs. refl)
         (λ xs. ap (λ (o : Option Bool). moved bs p.block (rest s p) (choose b c (mach (store_in before) xs 1) o)) holds ∙
-        ended before r 3 at_unset refl refl eq xs)
-        (ended_standing r 3 eq) (ended_stop r 3 (omega arith) eq)
+        ended before r Unset at_unset refl refl eq xs)
+        (ended_standing r Unset eq) (ended_stop r Unset (λ q. cc q) eq)

@@ -19,13 +19,17 @@ use Rattle.record.specs.Decode.{id_width, names_count, index_from, instr_from, i
 use Rattle.record.specs.Form.{pure, jump, value_of, form}
 use Rattle.record.specs.Again.{Passes}
 use Rattle.running.specs.Steps.{first_of, land}
-use Rattle.engine_cells.specs.Cells.{most_words, store_in}
-use Rattle.engine_pure.specs.declared.Worked.{Worked}
-use Rattle.engine_pure.specs.declared.Worked.TheVariants.{Done, Stops, Unset}
+use Rattle.engine_cells.specs.declared.Cells.{Cells}
+use Rattle.engine_cells.specs.Cells.{store_in}
+use Rattle.std.proofs.Common.{Result as CodeResult, Ok, Err}
+use Rattle.engine_pure.specs.declared.Stop.{Stop}
+use Rattle.engine_pure.specs.declared.Stop.TheVariants as stop
 use Rattle.engine_pure.specs.Works.{Works, expr_at, operands, Lies}
+use Rattle.engine_quiet.specs.declared.Ground.{Ground}
+use Rattle.engine_quiet.specs.declared.Over.TheVariants.{Unset, Division}
 use Rattle.engine_quiet.specs.declared.Spot.{Spot}
-use Rattle.engine_quiet.specs.Spot.{laid_out, body_at, quiet, code_at, Grounded, Standing, Landed, Moved}
-use Rattle.engine_quiet.proofs.Bodies.{first_passes, first_inside, code_inside}
+use Rattle.engine_quiet.specs.Spot.{blocks_of, body_at, quiet, code_at, Facing, Landed, Moved}
+use Rattle.engine_quiet.proofs.Bodies.{first_passes, first_inside}
 use Rattle.engine_quiet.proofs.Forms.{const_is, const_form, const_end, const_below, const_kind, op_is, op_form, op_end, op_count, op_below, jump_form, nop_form, nop_end}
 use Rattle.engine_quiet.proofs.Moved.{here, over_at, sets_moved, done_moved, stops_moved, lacks_moved, jump_moved, nop_moved}
 
@@ -40,148 +44,128 @@ quiet_left c e low a b = go (ℕ_discrete c 69)
         let f : quiet c ≡ false = rw (lt-leb c 14 low, ne_eqb c 64 a, ne_eqb c 65 b, ne_eqb c 69 q) in
         clash (cc)
 
--- what the code knows where it stands before an instruction; w: the bytes of an id
-pub record Before (s starts : List ℕ) (p : Spot) (w code : ℕ) : Type 0 where
-  pub standing : Standing s starts p
-  pub some : 0 < p.left
-  pub width : w ≡ id_width s
-  pub coded : code ≡ code_at s p.at
+-- p: the spot, at: the place behind the code of its instruction
+module _ {g : Ground} {p : Spot} (facing : Facing g p) (at : ℕ) (place : at ≡ p.at + g.w + 1) where
+  abbrev s : List ℕ
+  s = g.s.now
 
-abbrev pub before :
-    {s starts : List ℕ} {p : Spot} {w code : ℕ} → Standing s starts p → 0 < p.left → w ≡ id_width s → code ≡ code_at s p.at →
-    Before s starts p w code
-before st h ew ec = record { standing = st; some = h; width = ew; coded = ec }
-
-module _ {s starts : List ℕ} {p : Spot} {w code : ℕ} (now : Before s starts p w code) where
-  abbrev st : Standing s starts p
-  st = now.standing
-
-  abbrev h : 0 < p.left
-  h = now.some
-
-  abbrev ew : w ≡ id_width s
-  ew = now.width
-
-  abbrev ec : code ≡ code_at s p.at
-  ec = now.coded
-
-  pub id_inside : p.at + w + 1 ≤ length s
-  id_inside = code_inside s starts p w st h ew
+  abbrev types : List ℕ
+  types = g.types.now
 
   passes : Passes (names_count s) (instr_from (id_width s) s p.at)
-  passes = first_passes s p.at p.left st.sound h
+  passes = first_passes s p.at p.left facing.standing.sound facing.some
+
+  there : p.at + id_width s + 1 ≡ at
+  there = rw (← facing.grounded.width) (sym place)
 
   -- as onward has it
   abbrev On : ℕ → Spot → Type 0
-  On next r = Landed s starts (first_of p.block (body_at s next (p.left - 1)) (land (laid_out s starts) (p.block + 1))) r
+  On next r = Landed g (first_of p.block (body_at s next (p.left - 1)) (land (blocks_of g) (p.block + 1))) r
 
   inside_by : (next : ℕ) → next ≡ instr_end (id_width s) s p.at → next ≤ length s
-  inside_by next e = omega (arith, e, first_inside s p.at p.left st.sound h)
+  inside_by next e = omega (arith, e, first_inside s p.at p.left facing.standing.sound facing.some)
 
-  cell_there : (names few : ℕ) (cells : List ℕ) → names ≤ 256 → few < names → length cells ≡ most_words → 3 * few + 2 < length cells
-  cell_there names few cells n f e = omega (arith, n, f, e)
+  dest_few : (few : ℕ) → few < names_count s → few < 256
+  dest_few few f = omega (arith, facing.grounded.names, f)
 
   -- ---- codes 1 to 14
-  module _ (least : 1 ≤ code) (most : code ≤ 14) where
+  module _ {code : ℕ} (coded : code ≡ code_at s p.at) (least : 1 ≤ code) (most : code ≤ 14) where
     low : 1 ≤ code_at s p.at
-    low = omega (arith, least, ec)
+    low = omega (arith, least, coded)
 
     high : code_at s p.at ≤ 14
-    high = omega (arith, most, ec)
+    high = omega (arith, most, coded)
 
-    pub op_next : (n : ℕ) → n ≡ get_or s (p.at + w + 1 + 2) 0 → p.at + w + 1 + 3 + 2 * n ≡ instr_end (id_width s) s p.at
-    op_next n e = rw (e, ew) (sym (op_end (id_width s) s p.at (names_count s) passes (type_in []) low high))
+    pub op_next : (n : ℕ) → n ≡ get_or s (at + 2) 0 → at + 3 + 2 * n ≡ instr_end (id_width s) s p.at
+    op_next n e = rw (e, ← there) (sym (op_end (id_width s) s p.at (names_count s) passes (type_in []) low high))
 
-    pub op_inside : (n : ℕ) → n ≡ get_or s (p.at + w + 1 + 2) 0 → p.at + w + 1 + 3 + 2 * n ≤ length s
-    op_inside n e = inside_by (p.at + w + 1 + 3 + 2 * n) (op_next n e)
+    pub op_inside : (n : ℕ) → n ≡ get_or s (at + 2) 0 → at + 3 + 2 * n ≤ length s
+    op_inside n e = inside_by (at + 3 + 2 * n) (op_next n e)
 
-    operands_read : num_at s (p.at + w + 1 + 2) 1 ≡ operands code
-    operands_read = rw (ew, ec) (op_count (id_width s) s p.at (names_count s) passes (type_in []) low high)
+    operands_read : num_at s (at + 2) 1 ≡ operands code
+    operands_read = rw (← there, coded) (op_count (id_width s) s p.at (names_count s) passes (type_in []) low high)
 
-    pub op_lies : (cells : List ℕ) → Grounded s starts → length cells ≡ most_words → Lies s (p.at + w + 1) (3 + 2 * operands code) cells
-    op_lies cells g e =
-        let below : num_at s (p.at + w + 1) 2 < names_count s =
-        rw ew (op_below (id_width s) s p.at (names_count s) passes (type_in []) low high) in (
-          omega (arith, op_inside (num_at s (p.at + w + 1 + 2) 1) refl, operands_read),
-          cell_there (names_count s) (num_at s (p.at + w + 1) 2) cells g.names below e,
+    pub op_lies : Lies s at (3 + 2 * operands code)
+    op_lies =
+        let below : num_at s at 2 < names_count s =
+        rw (← there) (op_below (id_width s) s p.at (names_count s) passes (type_in []) low high) in (
+          omega (arith, op_inside (num_at s (at + 2) 1) refl, operands_read),
+          dest_few (num_at s at 2) below,
         )
 
     module _
-        (types before after : List ℕ) (r : Spot) (worked : Worked)
-        (works : Works before after (index_from s (p.at + w + 1)) (eval (store_in before) (expr_at code s (p.at + w + 1))) worked) where
-      formed : form (type_in types) (here s p) ≡ pure (expr_at code s (p.at + w + 1))
-      formed = rw (ew, ec) (op_form (id_width s) s p.at (names_count s) passes (type_in types) low high)
+        (before after : Cells) (r : Spot) (worked : CodeResult Unit Stop)
+        (works : Works before after (index_from s at) (eval (store_in before) (expr_at code s at)) worked) where
+      formed : form (type_in types) (here s p) ≡ pure (expr_at code s at)
+      formed = rw (← there, coded) (op_form (id_width s) s p.at (names_count s) passes (type_in types) low high)
 
-      works_here : Works before after (here s p).dest (eval (store_in before) (expr_at code s (p.at + w + 1))) worked
+      works_here : Works before after (here s p).dest (eval (store_in before) (expr_at code s at)) worked
       works_here =
-          let d : (here s p).dest ≡ index_from s (p.at + w + 1) =
-          rw ew (op_is (id_width s) s p.at (names_count s) passes (type_in types) low high) in
+          let d : (here s p).dest ≡ index_from s at =
+          rw (← there) (op_is (id_width s) s p.at (names_count s) passes (type_in types) low high) in
           rw d works
 
-      pub op_done : worked ≡ Done → (next : ℕ) → next ≡ instr_end (id_width s) s p.at → On next r → Moved s types starts before after p r
+      pub op_done : worked ≡ Ok tt → (next : ℕ) → next ≡ instr_end (id_width s) s p.at → On next r → Moved g before after p r
       op_done k next en l =
-          done_moved s types starts before p h st after r (expr_at code s (p.at + w + 1)) formed worked works_here k (rw en at l)
+          done_moved g before p facing after r (expr_at code s at) formed worked works_here k (rw en at l)
 
-      pub op_stops : worked ≡ Stops → r ≡ over_at s p 4 → Moved s types starts before after p r
-      op_stops k e = stops_moved s types starts before p h st after r (expr_at code s (p.at + w + 1)) formed worked works_here k e
+      pub op_stops : worked ≡ Err stop.Division → r ≡ over_at s p Division → Moved g before after p r
+      op_stops k e = stops_moved g before p facing after r (expr_at code s at) formed worked works_here k e
 
-      pub op_lacks : worked ≡ Unset → r ≡ over_at s p 3 → Moved s types starts before after p r
-      op_lacks k e = lacks_moved s types starts before p h st after r (expr_at code s (p.at + w + 1)) formed worked works_here k e
+      pub op_lacks : worked ≡ Err stop.Unset → r ≡ over_at s p Unset → Moved g before after p r
+      op_lacks k e = lacks_moved g before p facing after r (expr_at code s at) formed worked works_here k e
 
   -- ---- const
-  module _ (zero_code : code ≡ 0) where
+  module _ {code : ℕ} (coded : code ≡ code_at s p.at) (zero_code : code ≡ 0) where
     is_const : code_at s p.at ≡ 0
-    is_const = sym ec ∙ zero_code
+    is_const = sym coded ∙ zero_code
 
-    pub const_next : p.at + w + 1 + 11 ≡ instr_end (id_width s) s p.at
-    const_next = rw ew (sym (const_end (id_width s) s p.at (names_count s) passes (type_in []) is_const))
+    pub const_next : at + 11 ≡ instr_end (id_width s) s p.at
+    const_next = rw (← there) (sym (const_end (id_width s) s p.at (names_count s) passes (type_in []) is_const))
 
-    pub const_inside : p.at + w + 1 + 11 ≤ length s
-    const_inside = inside_by (p.at + w + 1 + 11) const_next
+    pub const_inside : at + 11 ≤ length s
+    const_inside = inside_by (at + 11) const_next
 
-    pub const_lies :
-        (cells : List ℕ) → Grounded s starts → length cells ≡ most_words →
-        (num_at s (p.at + w + 1 + 2) 1 ≤ 3) × Lies s (p.at + w + 1) 11 cells
-    const_lies cells g e =
-        let below : num_at s (p.at + w + 1) 2 < names_count s =
-        rw ew (const_below (id_width s) s p.at (names_count s) passes (type_in []) is_const) in
-        let kind : num_at s (p.at + w + 1 + 2) 1 ≤ 3 =
-        rw ew (const_kind (id_width s) s p.at (names_count s) passes (type_in []) is_const) in
-        (kind, (const_inside, cell_there (names_count s) (num_at s (p.at + w + 1) 2) cells g.names below e))
+    pub const_lies : (num_at s (at + 2) 1 ≤ 3) × Lies s at 11
+    const_lies =
+        let below : num_at s at 2 < names_count s =
+        rw (← there) (const_below (id_width s) s p.at (names_count s) passes (type_in []) is_const) in
+        let kind : num_at s (at + 2) 1 ≤ 3 =
+        rw (← there) (const_kind (id_width s) s p.at (names_count s) passes (type_in []) is_const) in
+        (kind, (const_inside, dest_few (num_at s at 2) below))
 
     pub const_done :
-        (types before after : List ℕ) (r : Spot) (next : ℕ) →
+        (before after : Cells) (r : Spot) (next : ℕ) →
         store_in after ≡
-        upd NameIx-discrete (store_in before) (index_from s (p.at + w + 1))
-        (some (value_of (type_in types (index_from s (p.at + w + 1))) (num_at s (p.at + w + 1 + 2) 1) (num_at s (p.at + w + 1 + 3) 8))) →
-        next ≡ instr_end (id_width s) s p.at → On next r → Moved s types starts before after p r
+        upd NameIx-discrete (store_in before) (index_from s at)
+        (some (value_of (type_in types (index_from s at)) (num_at s (at + 2) 1) (num_at s (at + 3) 8))) →
+        next ≡ instr_end (id_width s) s p.at → On next r → Moved g before after p r
     unfolding eval
-    const_done types before after r next set en l =
-        let b = p.at + w + 1 in
-        let v = value_of (type_in types (index_from s b)) (num_at s (b + 2) 1) (num_at s (b + 3) 8) in
+    const_done before after r next set en l =
+        let v = value_of (type_in types (index_from s at)) (num_at s (at + 2) 1) (num_at s (at + 3) 8) in
         let formed : form (type_in types) (here s p) ≡ pure (constant v) =
-        rw ew (const_form (id_width s) s p.at (names_count s) passes (type_in types) is_const) in
-        let d : (here s p).dest ≡ index_from s b =
-        rw ew (const_is (id_width s) s p.at (names_count s) passes (type_in types) is_const) in
-        sets_moved s types starts before p h st after r (constant v) formed v refl (rw d set) (rw en at l)
+        rw (← there) (const_form (id_width s) s p.at (names_count s) passes (type_in types) is_const) in
+        let d : (here s p).dest ≡ index_from s at =
+        rw (← there) (const_is (id_width s) s p.at (names_count s) passes (type_in types) is_const) in
+        sets_moved g before p facing after r (constant v) formed v refl (rw d set) (rw en at l)
 
   -- ---- jmp
   pub jump_done :
-      code ≡ 64 → (types before : List ℕ) (r : Spot) (b : ℕ) → b ≡ num_at s (p.at + w + 2) 2 →
-      Landed s starts (land (laid_out s starts) b) r → Moved s types starts before before p r
-  jump_done e types before r b eb l =
+      {code : ℕ} → code ≡ code_at s p.at → code ≡ 64 → (before : Cells) (r : Spot) (b : ℕ) → b ≡ num_at s (at + 1) 2 →
+      Landed g (land (blocks_of g) b) r → Moved g before before p r
+  jump_done coded e before r b eb l =
       let formed : form (type_in types) (here s p) ≡ jump b =
-      rw (eb, ew) (jump_form (id_width s) s p.at (names_count s) passes (type_in types) (sym ec ∙ e)) in
-      jump_moved s types starts before p h st r b formed l
+      let two : p.at + id_width s + 2 ≡ at + 1 = omega (arith, there) in
+      rw (eb, ← two) (jump_form (id_width s) s p.at (names_count s) passes (type_in types) (sym coded ∙ e)) in
+      jump_moved g before p facing r b formed l
 
   -- ---- nop
-  module _ (e : code ≡ 69) where
-    pub nop_next : p.at + w + 2 ≡ instr_end (id_width s) s p.at
-    nop_next = rw ew (sym (nop_end (id_width s) s p.at (names_count s) passes (type_in []) (sym ec ∙ e)))
+  module _ {code : ℕ} (coded : code ≡ code_at s p.at) (e : code ≡ 69) where
+    pub nop_next : at + 1 ≡ instr_end (id_width s) s p.at
+    nop_next = omega (arith, there, nop_end (id_width s) s p.at (names_count s) passes (type_in []) (sym coded ∙ e))
 
     pub nop_done :
-        (types before : List ℕ) (r : Spot) (next : ℕ) → next ≡ instr_end (id_width s) s p.at → On next r →
-        Moved s types starts before before p r
-    nop_done types before r next en l =
-        nop_moved s types starts before p h st r
-        (nop_form (id_width s) s p.at (names_count s) passes (type_in types) (sym ec ∙ e)) (rw en at l)
+        (before : Cells) (r : Spot) (next : ℕ) → next ≡ instr_end (id_width s) s p.at → On next r → Moved g before before p r
+    nop_done before r next en l =
+        nop_moved g before p facing r
+        (nop_form (id_width s) s p.at (names_count s) passes (type_in types) (sym coded ∙ e)) (rw en at l)

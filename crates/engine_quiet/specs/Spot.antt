@@ -1,5 +1,5 @@
 -- Where a run stands in the record, as the machine by steps has it, and what a step without an event does.
-use Rattle.std.specs.Prelude.{ℕ, zero, suc, ◌+◌, ◌<◌, ◌≤◌, List, [], map, Bool, true, ◌||◌, ◌≡◌, ◌≢◌, leb, eqb, length, get_or}
+use Rattle.std.specs.Prelude.{ℕ, ◌+◌, ◌<◌, ◌≤◌, List, [], map, Bool, true, ◌||◌, ◌≡◌, ◌≢◌, leb, eqb, length, get_or}
 use Rattle.std.proofs.Math.Option.{none}
 use Rattle.arith.specs.Operation.{by_zero}
 use Rattle.record.specs.Record.{Instr, Block, type_in}
@@ -10,19 +10,21 @@ use Rattle.machine.specs.Machine.{Context, Answer, Stop, at_end, at_ret, at_halt
 use Rattle.running.specs.Steps.{Stand, over, Config, first_of, take_step}
 use Rattle.running.specs.Engine.{fits_at}
 use Rattle.engine_cells.specs.Cells.{store_in}
+use Rattle.engine_cells.specs.declared.Cells.{Cells}
+use Rattle.engine_quiet.specs.declared.Ground.{Ground}
+use Rattle.engine_quiet.specs.declared.Over.{Over}
+use Rattle.engine_quiet.specs.declared.Over.TheVariants.{End, Ret, Halt, Unset, Division, Unfit}
 use Rattle.engine_quiet.specs.declared.Spot.{Spot}
 
--- ---- the numbers of stops; id: that of the instruction at which a run is over
-unfoldable pub stop_by : ℕ → ℕ → Stop
-stop_by zero id = at_end
-stop_by (suc zero) id = at_ret
-stop_by (suc (suc zero)) id = at_halt
-stop_by (suc (suc (suc zero))) id = at_unset
-stop_by (suc (suc (suc (suc n)))) id = at_division id by_zero
-
--- the number for an answer that does not fit, which is no stop
-abbrev pub unfit_number : ℕ
-unfit_number = 13
+-- ---- stops; id: that of the instruction at which a run is over
+-- an answer that does not fit is no stop, and is told apart by Unfit alone
+unfoldable pub stop_by : Over → ℕ → Stop
+stop_by End id = at_end
+stop_by Ret id = at_ret
+stop_by Halt id = at_halt
+stop_by Unset id = at_unset
+stop_by Division id = at_division id by_zero
+stop_by Unfit id = at_division id by_zero
 
 -- ---- views; the bytes of an id are those of the record
 -- the function's blocks, by the table of their places
@@ -42,7 +44,7 @@ abbrev pub stand_of : List ℕ → Spot → Stand
 stand_of s p = first_of p.block (body_at s p.at p.left) (over (stop_by p.stop (num_at s p.at (id_width s))))
 
 -- with these cells and answers, no event so far, and k steps counted
-abbrev pub at_spot : List ℕ → List ℕ → List Answer → Spot → ℕ → Config
+abbrev pub at_spot : List ℕ → Cells → List Answer → Spot → ℕ → Config
 at_spot s cells xs p k = record { stand = stand_of s p; mach = record { store = store_in cells; answers = xs; events = []; steps = k } }
 
 -- ---- what a run rests on
@@ -51,15 +53,22 @@ pub record Sound (s : List ℕ) (at n : ℕ) : Type 0 where
   pub passing : Passing (names_count s) (body_at s at n)
   pub inside : instrs_end (id_width s) s at n ≤ length s
 
--- so do those of every block; starts: the places of the blocks
-pub record Grounded (s starts : List ℕ) : Type 0 where
-  pub names : names_count s ≤ 256
-  pub each : (b : ℕ) → b < length starts → Sound s (get_or starts b 0 + 2 + 2) (num_at s (get_or starts b 0) 2)
+-- so do those of every block, and an id has as many bytes as is said
+pub record Grounded (g : Ground) : Type 0 where
+  pub width : g.w ≡ id_width g.s.now
+  pub names : names_count g.s.now ≤ 256
+  pub each : (b : ℕ) → b < length g.starts.now → Sound g.s.now (get_or g.starts.now b 0 + 2 + 2) (num_at g.s.now (get_or g.starts.now b 0) 2)
 
 -- a run stands in one of the blocks, or is over
-pub record Standing (s starts : List ℕ) (p : Spot) : Type 0 where
-  pub sound : Sound s p.at p.left
-  pub placed : 0 < p.left → p.block < length starts
+pub record Standing (g : Ground) (p : Spot) : Type 0 where
+  pub sound : Sound g.s.now p.at p.left
+  pub placed : 0 < p.left → p.block < length g.starts.now
+
+-- it stands before an instruction
+pub record Facing (g : Ground) (p : Spot) : Type 0 where
+  pub grounded : Grounded g
+  pub standing : Standing g p
+  pub some : 0 < p.left
 
 -- ---- a step without an event
 -- the codes of those: const, 1 to 14, jmp, br, nop
@@ -70,19 +79,23 @@ quiet code = leb code 14 || (eqb code 64 || (eqb code 65 || eqb code 69))
 abbrev pub code_at : List ℕ → ℕ → ℕ
 code_at s at = num_at s (at + id_width s) 1
 
+-- the function's blocks
+abbrev pub blocks_of : Ground → List (Block Instr)
+blocks_of g = laid_out g.s.now g.starts.now
+
 -- landed at block b, or at the next that is not empty
-pub record Landed (s starts : List ℕ) (d : Stand) (r : Spot) : Type 0 where
-  pub stand : stand_of s r ≡ d
-  pub standing : Standing s starts r
-  pub stop : r.stop ≢ unfit_number
+pub record Landed (g : Ground) (d : Stand) (r : Spot) : Type 0 where
+  pub stand : stand_of g.s.now r ≡ d
+  pub standing : Standing g r
+  pub stop : r.stop ≢ Unfit
 
 -- from p to r: the machine's step, whatever answers are left, which takes none of them
-pub record Moved (s types starts before after : List ℕ) (p r : Spot) : Type 0 where
+pub record Moved (g : Ground) (before after : Cells) (p r : Spot) : Type 0 where
   pub fits :
       (xs : List Answer) →
-      fits_at (told_types types) (at_spot s before xs p 0).mach (stand_of s p) ≡ true
+      fits_at (told_types g.types.now) (at_spot g.s.now before xs p 0).mach (stand_of g.s.now p) ≡ true
   pub takes :
       (xs : List Answer) →
-      take_step (told_types types) (laid_out s starts) (at_spot s before xs p 0) ≡ at_spot s after xs r 1
-  pub standing : Standing s starts r
-  pub stop : r.stop ≢ unfit_number
+      take_step (told_types g.types.now) (blocks_of g) (at_spot g.s.now before xs p 0) ≡ at_spot g.s.now after xs r 1
+  pub standing : Standing g r
+  pub stop : r.stop ≢ Unfit

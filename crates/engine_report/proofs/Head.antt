@@ -1,66 +1,47 @@
--- An answer's bytes: five values are written one behind the other, and as many as the answer has are its first bytes.
-use Prim.Native.Nat.{ℕ, ◌+◌, ◌*◌, ◌≤◌}
-use mathlib.Core.Path.{◌≡◌, refl, ap, ◌∙◌}
+-- An answer's bytes: a number, and values of eight bytes each, one behind the other.
+use Prim.Native.Nat.{ℕ, suc, ◌+◌, ◌*◌, ◌<◌, ◌≤◌}
+use mathlib.Core.Path.{◌≡◌, refl, sym, ap, ◌∙◌}
 use mathlib.Core.List.{List, [], ◌∷◌, ◌++◌, map}
 use native.Mathlib.Omega.{arith}
-use lib.ListN.{length, take, drop}
+use lib.ListN.{length, get_or, take, drop}
+use lib.Seq.{take-append_seam}
+use Rattle.std.proofs.Math.Seq.{drop-cons}
+use Rattle.std.proofs.Math.ListN.{drop_of_length-le}
 use Rattle.record.specs.Write.{be, join}
-use Rattle.write_bytes.specs.Put.{put, Wrote}
+use Rattle.running.specs.Program.{returned_bytes}
+use Rattle.write_bytes.specs.Put.{put}
 use Rattle.write_bytes.proofs.Put.{put_first}
-use Rattle.write_bytes.proofs.Wrote.{wrote_append, wrote_join, wrote_last, wrote_number}
-use Rattle.engine_answer.specs.Five.{first_five}
+use Rattle.write_bytes.proofs.Wrote.{Rest, rest_less, wrote_number}
 
--- a number, and values of eight bytes each
-abbrev pub with_values : ℕ → List ℕ → List ℕ
-with_values x vs = be 1 x ++ join (map (be 8) vs)
+abbrev pub values_bytes : List ℕ → List ℕ
+values_bytes vs = join (map (be 8) vs)
 
-pub five_written :
-    (l m n o p q r : List ℕ) (x a b c d e : ℕ) →
-    m ≡ put l 0 (be 1 x) →
-    n ≡ put m 1 (be 8 a) →
-    o ≡ put n 9 (be 8 b) →
-    p ≡ put o 17 (be 8 c) →
-    q ≡ put p 25 (be 8 d) →
-    r ≡ put q 33 (be 8 e) →
-    r ≡ put l 0 (with_values x (a ∷ b ∷ c ∷ d ∷ e ∷ []))
-five_written l m n o p q r x a b c d e w0 w1 w2 w3 w4 w5 =
-    let t : Wrote l r 0 41 (with_values x (a ∷ b ∷ c ∷ d ∷ e ∷ [])) =
-    wrote_append (be 1 x) (join (map (be 8) (a ∷ b ∷ c ∷ d ∷ e ∷ []))) (wrote_number 1 x w0)
-    (wrote_join (be 8 a) (map (be 8) (b ∷ c ∷ d ∷ e ∷ [])) (wrote_number 8 a w1)
-    (wrote_join (be 8 b) (map (be 8) (c ∷ d ∷ e ∷ [])) (wrote_number 8 b w2)
-    (wrote_join (be 8 c) (map (be 8) (d ∷ e ∷ [])) (wrote_number 8 c w3)
-    (wrote_join (be 8 d) (map (be 8) (e ∷ [])) (wrote_number 8 d w4)
-    (wrote_last (be 8 e) (wrote_number 8 e w5)))))) in
-    t.out
+-- the value at i is written, and those behind it are left
+pub value_put : {l m l₀ whole : List ℕ} {p i₀ : ℕ} (vs : List ℕ) (i : ℕ) → i < length vs → m ≡ put l p (be 8 (get_or vs i 0)) →
+    Rest l p (values_bytes (drop i vs)) l₀ i₀ whole → Rest m (p + 8) (values_bytes (drop (i + 1) vs)) l₀ i₀ whole
+unfolding join
+value_put vs i h w r =
+    let v = get_or vs i 0 in
+    let next : suc i ≡ i + 1 = omega arith in
+    rest_less (be 8 v) (values_bytes (drop (i + 1) vs)) (values_bytes (drop i vs))
+    (ap values_bytes (drop-cons vs i 0 h) ∙ ap (λ (k : ℕ). be 8 v ++ values_bytes (drop k vs)) next) (wrote_number 8 v w) r
 
--- ---- the first bytes of five values are those of as many as there are
-first_bytes :
-    (x : ℕ) (vs rest : List ℕ) → length vs ≤ 5 →
-    take (1 + 8 * length vs) (with_values x (first_five vs) ++ rest) ≡ with_values x vs
+-- behind the last none is left
+pub values_end : (vs : List ℕ) (i : ℕ) → length vs ≤ i → values_bytes (drop i vs) ≡ []
+unfolding join
+values_end vs i h = ap values_bytes (drop_of_length-le vs h)
+
+-- how many bytes they are
+pub values_length : (vs : List ℕ) → length (values_bytes vs) ≡ 8 * length vs
 unfolding be join
-first_bytes x [] rest h = refl
-first_bytes x (a ∷ []) rest h = refl
-first_bytes x (a ∷ b ∷ []) rest h = refl
-first_bytes x (a ∷ b ∷ c ∷ []) rest h = refl
-first_bytes x (a ∷ b ∷ c ∷ d ∷ []) rest h = refl
-first_bytes x (a ∷ b ∷ c ∷ d ∷ e ∷ []) rest h = refl
-first_bytes x (a ∷ b ∷ c ∷ d ∷ e ∷ f ∷ vs) rest h = absurd (omega arith)
+values_length [] = refl
+values_length (v ∷ vs) = omega (arith, values_length vs)
 
-five_length : (x a b c d e : ℕ) → length (with_values x (a ∷ b ∷ c ∷ d ∷ e ∷ [])) ≡ 41
-unfolding be join
-five_length x a b c d e = refl
-
--- vs: the answer's values; five: as the code has them
-pub head_shown :
-    {m five : List ℕ} {n : ℕ} (l : List ℕ) (x : ℕ) (vs : List ℕ) →
-    41 ≤ length l →
-    m ≡ put l 0 (with_values x five) →
-    five ≡ first_five vs →
-    n ≡ length vs →
-    length vs ≤ 5 →
-    take (1 + 8 * n) m ≡ with_values x vs
-head_shown {m} {five} {n} l x vs h w e c few =
-    let t = with_values x (first_five vs) in
-    let s : length t ≡ 41 = five_length x _ _ _ _ _ in
-    let p : m ≡ t ++ drop (length t) l = w ∙ ap (λ (f : List ℕ). put l 0 (with_values x f)) e ∙ put_first l t (omega arith) in
-    ap (λ (k : ℕ). take (1 + 8 * k) m) c ∙ ap (take (1 + 8 * length vs)) p ∙ first_bytes x vs (drop (length t) l) few
+-- the first bytes are the answer's
+pub returned_first : (l m : List ℕ) (x n : ℕ) (vs : List ℕ) → m ≡ put l 0 (be 1 x ++ values_bytes vs) → n ≡ 1 + 8 * length vs → n ≤ length l →
+    take n m ≡ returned_bytes (record { number = x; values = vs })
+unfolding be join returned_bytes
+returned_first l m x n vs w e h =
+    let t = be 1 x ++ values_bytes vs in
+    let k : length t ≡ n = omega (arith, values_length vs, e) in
+    ap (λ j. take j m) (sym k) ∙ ap (take (length t)) (w ∙ put_first l t (omega (arith, k, h))) ∙ take-append_seam t (drop (length t) l)

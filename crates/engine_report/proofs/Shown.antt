@@ -4,14 +4,13 @@ use mathlib.Core.Path.{◌≡◌, sym, ap, ◌∙◌, subst}
 use mathlib.Core.Bool.{Bool, cond}
 use mathlib.Core.List.{List, ◌++◌, append-nil}
 use native.Mathlib.Omega.{arith}
-use lib.ListN.{length, take, drop, length-append, length-take}
+use lib.ListN.{length, take, drop, length-append}
 use lib.Seq.{take-append_seam}
 use borrow.Author.Tests.{lt-ltb, le-ltb, eq-eqb, ne_eqb}
 use Rattle.record.specs.Record.{limits}
 use Rattle.record.specs.Reader.{num_at}
-use Rattle.running.specs.declared.Ran.{Ran}
-use Rattle.running.specs.declared.Ran.TheVariants.{Done, Refused, Unfit, Room}
-use Rattle.running.specs.Engine.{Outcome, outcome, events_left, store_left, written, result, events_out, store_out, engine, engine_events, engine_store, engine_answer}
+use Rattle.std.specs.Prelude.{Ok, Err}
+use Rattle.running.specs.Engine.{Ran, Outcome, outcome, events_left, store_left, written, result, events_out, store_out, engine, engine_events, engine_store, engine_answer}
 use Rattle.running.specs.Program.{most_run_input, events_room, store_room, part, part_end, returned_bytes, bytes_left, when_done, ran_bytes, refused_input, output_of, output_with, run_output}
 use Rattle.running.proofs.Engine.{result_tells, events_written, store_written}
 use Rattle.engine_report.specs.declared.Parts.{Parts}
@@ -57,15 +56,15 @@ outcome_shown :
     take n head ≡ returned_bytes (engine_answer a) →
     Shows (parts_of n a) head events' left' (ran_bytes a (bytes_left o))
 unfolding parts_of when_done bytes_left
-outcome_shown {head} {events'} {left'} events left o (Done e l k how) n d p q h w =
-    let t = result_tells (length events) (length left) o e l k how d in
+outcome_shown {head} {events'} {left'} events left o (Ok r) n d p q h w =
+    let t = result_tells (length events) (length left) o r.events r.store r.steps r.ending d in
     let es = events_left t.width t.config in
     let ls = store_left t.names t.config in
     let x =
-    stands es events e (p ∙ events_written events (length left) o t.width t.names t.config t.comes t.enough)
+    stands es events r.events (p ∙ events_written events (length left) o t.width t.names t.config t.comes t.enough)
     t.events_count in
     let y =
-    stands ls left l (q ∙ store_written (length events) left o t.width t.names t.config t.comes t.enough)
+    stands ls left r.store (q ∙ store_written (length events) left o t.width t.names t.config t.comes t.enough)
     t.store_count in
     record {
       head_within = h;
@@ -73,11 +72,9 @@ outcome_shown {head} {events'} {left'} events left o (Done e l k how) n d p q h 
       left_within = y.0;
       all =
           (λ i. w i ++ (x.1 i ++ y.1 i))
-          ∙ ap (λ (z : Outcome). returned_bytes (engine_answer (Done e l k how)) ++ bytes_left z) (sym t.comes);
+          ∙ ap (λ (z : Outcome). returned_bytes (engine_answer (Ok r)) ++ bytes_left z) (sym t.comes);
     }
-outcome_shown events left o (Refused k f) n d p q h w = shows_only n h (w ∙ sym (append-nil _))
-outcome_shown events left o Unfit n d p q h w = shows_only n h (w ∙ sym (append-nil _))
-outcome_shown events left o (Room e l) n d p q h w = shows_only n h (w ∙ sym (append-nil _))
+outcome_shown events left o (Err e) n d p q h w = shows_only n h (w ∙ sym (append-nil _))
 
 -- what the engine answers and leaves, of the parts of an input whose limit has eight bytes
 pub run_shown :
@@ -144,13 +141,6 @@ pub program_shown :
 unfolding run_output
 program_shown {r} {head} {events'} {left'} s room more p q w =
     subst (λ (z : List ℕ). Shows r head events' left' z) (λ i. output_with (p i) (q i) s) w
-
--- ---- the first bytes of an input that is a byte longer than the longest
-pub first_within : (n : ℕ) (s : List ℕ) → n ≤ most_run_input → length (take n s) ≤ most_run_input
-first_within n s h = omega (arith, length-take n s)
-
-pub first_many : (n : ℕ) (s : List ℕ) → length s ≡ most_run_input + 1 → most_run_input < n → most_run_input < length (take n s)
-first_many n s e h = omega (arith, length-take n s)
 
 -- ---- the end of a part
 pub part_cut : (s : List ℕ) (at n x : ℕ) → n ≡ 4 + x → x ≡ num_at s at 4 → length s - at < n → length s ≡ part_end s at

@@ -1,7 +1,6 @@
 -- What the program has to write when it has run, in three parts: the first bytes of the answer's, of the events' and of the store's.
-use Rattle.std.specs.Prelude.{ℕ, ◌≤◌, List, ◌++◌, ◌≡◌, length, take}
-use Rattle.running.specs.declared.Ran.{Ran}
-use Rattle.running.specs.declared.Ran.TheVariants.{Done, Refused, Unfit, Room}
+use Rattle.std.specs.Prelude.{Ok, Err, ℕ, ◌≤◌, List, ◌++◌, ◌≡◌, length, take}
+use Rattle.running.specs.Engine.{Ran}
 use Rattle.engine_report.specs.declared.Parts.{Parts}
 
 -- so many bytes of each, one part after the other, are these
@@ -13,7 +12,5 @@ pub record Shows (p : Parts) (head events left bytes : List ℕ) : Type 0 where
 
 -- behind an answer of n bytes: events and store when the run is done
 unfoldable pub parts_of : ℕ → Ran → Parts
-parts_of n (Done e l k how) = record { head = n; events = e; left = l }
-parts_of n (Refused k o) = record { head = n; events = 0; left = 0 }
-parts_of n Unfit = record { head = n; events = 0; left = 0 }
-parts_of n (Room e l) = record { head = n; events = 0; left = 0 }
+parts_of n (Ok r) = record { head = n; events = r.events; left = r.store }
+parts_of n (Err e) = record { head = n; events = 0; left = 0 }

@@ -1,16 +1,12 @@
 // What the program that runs an accession writes, put into lent buffers: the answer, the events and the final store.
 #![tactic(auto)]
 
-ghost use Rattle.std.specs.Prelude.{◌≡◌, ◌++◌, map, ◌≤◌, length, take};
-ghost use Rattle.record.specs.Write.{be, join};
+ghost use Rattle.std.specs.Prelude.{◌≡◌, ◌+◌, ◌*◌, ◌≤◌, length, take};
 ghost use Rattle.running.specs.Engine.{engine_answer};
 ghost use Rattle.running.specs.Program.{most_run_input, part_end, returned_bytes, refused_input, output_of, output_with, run_output};
-ghost use Rattle.write_bytes.specs.Put.{put};
-ghost use Rattle.engine_answer.specs.Five.{five};
 ghost use Rattle.engine_report.specs.Shows.{Shows, parts_of};
 
-use engine_answer::Five;
-use running::Ran;
+use running::{Run, RunError};
 
 // The most bytes of an answer: its number and five values.
 const HEAD: usize = 41;
@@ -23,36 +19,41 @@ pub struct Parts {
     pub left: usize,
 }
 
-// A number and five values, from the first byte on.
-fn put_five(out: &mut [u8], number: u8, v: Five)
-    ensures { out.new ≡ put out.old 0 (be 1 number ++ join (map (be 8) (five v))) }
+impl Parts {
+    // An answer of so many bytes, and nothing behind it.
+    fn answer(head: usize) -> Parts
+        ensures { result ≡ record { head = head; events = 0; left = 0 } }
+    {
+        Parts {
+            head,
+            events: 0,
+            left: 0,
+        }
+    }
+}
+
+// A number in one byte and each value in eight, from the first byte on; how many bytes they are.
+fn put_returned(out: &mut [u8], number: u8, values: &[u64]) -> usize
+    requires { (length values.now ≤ 5) × (41 ≤ length out.old) }
+    ensures end { result ≡ 1 + 8 * length values.now }
+    ensures bytes { take result out.new ≡ returned_bytes (record { number = number; values = values.now }) }
 {
     write_bytes::put_u8(out, 0, number);
-    write_bytes::put_u64(out, 1, v.0);
-    write_bytes::put_u64(out, 9, v.1);
-    write_bytes::put_u64(out, 17, v.2);
-    write_bytes::put_u64(out, 25, v.3);
-    write_bytes::put_u64(out, 33, v.4);
+    let mut end = 1;
+    for v in values {
+        write_bytes::put_u64(out, end, *v);
+        end += 8;
+    }
+    end
 }
 
 // The engine's answer: its number and as many values as it has; how many bytes they are.
-fn put_answer(out: &mut [u8], a: Ran) -> usize
+fn put_answer(out: &mut [u8], a: Result<Run, RunError>) -> usize
     requires { 41 ≤ length out.old }
     ensures { (result ≤ 41) × (take result out.new ≡ returned_bytes (engine_answer a)) }
 {
-    put_five(out, engine_answer::number(a), engine_answer::values(a));
-    1 + 8 * engine_answer::count(a)
-}
-
-// An answer of so many bytes, and nothing behind it.
-fn only(head: usize) -> Parts
-    ensures { result ≡ record { head = head; events = 0; left = 0 } }
-{
-    Parts {
-        head,
-        events: 0,
-        left: 0,
-    }
+    let n = engine_answer::in_numbers(a);
+    put_returned(out, n.number, &n.values[..n.count])
 }
 
 // 10 with its value, and nothing behind it.
@@ -60,23 +61,21 @@ fn put_refused(out: &mut [u8], value: usize) -> Parts
     requires { 41 ≤ length out.old }
     ensures { (result ≡ record { head = 9; events = 0; left = 0 }) × (take 9 out.new ≡ refused_input value) }
 {
-    put_five(out, 10, Five(value as u64, 0, 0, 0, 0));
-    only(9)
+    Parts::answer(put_returned(out, 10, &[value as u64]))
 }
 
 // Behind it stand events and store when the run is done.
-fn parts_of(head: usize, a: Ran) -> Parts
+#[tactic(auto, unfolding(crate::specs::Shows::parts_of))]
+fn parts_of(head: usize, a: Result<Run, RunError>) -> Parts
     ensures { result ≡ parts_of head a }
 {
     match a {
-        Ran::Done(e, l, _, _) => Parts {
+        Ok(run) => Parts {
             head,
-            events: e,
-            left: l,
+            events: run.events,
+            left: run.store,
         },
-        Ran::Refused(_, _) => only(head),
-        Ran::Unfit => only(head),
-        Ran::Room(_, _) => only(head),
+        Err(_) => Parts::answer(head),
     }
 }
 
@@ -85,7 +84,7 @@ fn part_end(s: &[u8], at: usize) -> usize
     requires { (at ≤ length s.now) × (length s.now ≤ most_run_input) }
     ensures { (result ≡ part_end s.now at) × ((at ≤ result) × (result ≤ length s.now)) }
 {
-    let n = 4 + read_fields::be32(s, at) as usize;
+    let n = 4 + read_fields::be::<4>(s, at) as usize;
     if read_fields::left(s, at) < n {
         return s.len();
     }
@@ -109,7 +108,7 @@ fn run_from(
     if s.len() - c != 8 {
         return put_refused(head, c);
     }
-    let limit = read_fields::be64(s, c);
+    let limit = read_fields::be::<8>(s, c);
     let ran = engine::run(&s[..a], &s[a..b], &s[b..c], limit, events, left);
     let n = put_answer(head, ran);
     parts_of(n, ran)
@@ -127,20 +126,17 @@ fn run_input(s: &[u8], head: &mut [u8], events: &mut [u8], left: &mut [u8]) -> P
     run_from(s, a, b, c, head, events, left)
 }
 
-// All that the program does between reading and writing: of the first `count` bytes of the input, which are all if it has not so many, what
-// it writes stands first in the three buffers.
+// All that the program does between reading and writing: what it writes of the input stands first in the three buffers.
 pub fn program(
-    input: &[u8; 262145],
-    count: usize,
+    input: &[u8],
     events: &mut [u8; 1048576],
     left: &mut [u8; 8192],
     head: &mut [u8; HEAD],
 ) -> Parts
-    ensures { Shows result head.new events.new left.new (run_output (take count input.now)) }
+    ensures { Shows result head.new events.new left.new (run_output input.now) }
 {
-    let read: &[u8] = input;
-    if count > 262144 {
+    if input.len() > 262144 {
         return put_refused(head, 262144);
     }
-    run_input(&read[..count], head, events, left)
+    run_input(input, head, events, left)
 }

@@ -2,38 +2,39 @@
 use Prim.Native.Nat.{ℕ, suc, ◌+◌, ◌-◌, ◌<◌, ◌≤◌}
 use mathlib.Core.Path.{◌≡◌, refl, sym, ap, ◌∙◌}
 use mathlib.Core.Bool.{Bool, true, false, cond, not, ◌&&◌, ◌||◌}
-use mathlib.Core.Logic.{◌≢◌, ◌⊎◌, inl, inr}
+use mathlib.Core.Logic.{◌≢◌}
 use mathlib.Core.List.{List, [], ◌++◌}
 use native.Mathlib.Omega.{arith}
-use borrow.Author.Tests.{ltb-true, ltb-false, ne_eqb, not-true}
-use lib.Dec.{eqb, ltb}
+use borrow.Author.Tests.{ne_eqb}
+use lib.Dec.{eqb}
 use lib.ListN.{length, get_or}
 use Rattle.record.specs.Write.{join}
 use Rattle.record.specs.Decode.{id_width}
-use Rattle.arith.proofs.Clash.{clash}
 use Rattle.record.specs.Record.{Instr, Block}
 use Rattle.record.proofs.Rows.{one_more}
-use Rattle.record.proofs.Tests.{and_left, and_right}
 use Rattle.machine.specs.Machine.{Context, Event}
 use Rattle.running.specs.Steps.{Config, take_step, steps, shifted}
 use Rattle.running.specs.House.{events_bytes}
 use Rattle.running.specs.Engine.{fits_at, unfit_within}
 use Rattle.running.proofs.Shifted.{shifted_nothing, shifted_shifted, take_step_shifted, unfit_shifted}
 use Rattle.write_bytes.proofs.Wrote.{wrote_nothing}
+use Rattle.engine_cells.specs.declared.Cells.{Cells}
+use Rattle.engine_quiet.specs.declared.Ground.{Ground}
+use Rattle.engine_quiet.specs.declared.Over.TheVariants.{Unfit}
 use Rattle.engine_quiet.specs.declared.Spot.{Spot}
-use Rattle.engine_quiet.specs.Spot.{unfit_number, laid_out, told_types, quiet, code_at, Moved}
+use Rattle.engine_quiet.specs.Spot.{told_types, blocks_of, quiet, code_at, Grounded, Facing, Moved}
 use Rattle.engine_events.specs.declared.Turn.{Turn}
 use Rattle.engine_events.specs.Turn.{config_in, answers_left, Ready, Stepped}
-use Rattle.engine_steps.specs.Came.{waiting, steps_of, unfit_of, Calm, Goes, Came}
+use Rattle.engine_steps.specs.Came.{waiting, steps_of, unfit_of, Calm, Goes}
 use Rattle.engine_steps.proofs.Events.{events_then, no_bytes}
 
 -- ---- the instruction at which a run stands
--- w: the bytes of an id
-pub code_of : (s : List ℕ) (at : ℕ) {w code : ℕ} → w ≡ id_width s → code ≡ get_or s (at + w) 0 → code ≡ code_at s at
-code_of s at e h = h ∙ ap (λ (k : ℕ). get_or s (at + k) 0) e
+pub stands : {g : Ground} {t : Turn} → Grounded g → Ready g t → 0 < t.spot.left → Facing g t.spot
+stands g h some = record { grounded = g; standing = h.standing; some = some }
 
-pub never : {A : Type 0} → true ≡ false → A
-never e = clash (cc)
+-- its code, as the code reads it
+pub coded : {g : Ground} (at : ℕ) {code : ℕ} → Grounded g → code ≡ get_or g.s.now (at + g.w) 0 → code ≡ code_at g.s.now at
+coded {g} at h e = e ∙ ap (λ (k : ℕ). get_or g.s.now (at + k) 0) h.width
 
 -- ---- a step without an event
 -- standing elsewhere
@@ -48,8 +49,8 @@ ahead_most : (b : Bool) (k : ℕ) → cond b 0 k ≤ k
 ahead_most true k = omega arith
 ahead_most false k = omega arith
 
-module _ (s types starts list before after l : List ℕ) (t : Turn) (p : Spot) (moved : Moved s types starts before after t.spot p) where
-  pub quiet_steps : Ready s starts list t → 0 < t.spot.left → Stepped s types starts list before after l l t (moved_to t p)
+module _ (g : Ground) (before after : Cells) (l : List ℕ) (t : Turn) (p : Spot) (moved : Moved g before after t.spot p) where
+  pub quiet_steps : Ready g t → 0 < t.spot.left → Stepped g before after l l t (moved_to t p)
   unfolding events_bytes join
   quiet_steps h left =
       record {
@@ -72,36 +73,35 @@ module _ (s types starts list before after l : List ℕ) (t : Turn) (p : Spot) (
         fit =
             λ _. record {
               added = [];
-              fits = moved.fits (answers_left list t);
-              takes = moved.takes (answers_left list t);
+              fits = moved.fits (answers_left g.list.now t);
+              takes = moved.takes (answers_left g.list.now t);
               wrote = wrote_nothing;
             };
       }
 
-pub quiet_calm :
-    (s types starts before after : List ℕ) (t : Turn) (p : Spot) → Moved s types starts before after t.spot p → Calm t (moved_to t p)
-quiet_calm s types starts before after t p moved = record { event = refl; stop = moved.stop }
+  pub quiet_calm : Calm t (moved_to t p)
+  quiet_calm = record { event = refl; stop = moved.stop }
 
 -- ---- as far as a run has come
-pub record Upto (s types starts list before after l m : List ℕ) (t r : Turn) : Type 0 where
-  pub ready : Ready s starts list r
+pub record Upto (g : Ground) (before after : Cells) (l m : List ℕ) (t r : Turn) : Type 0 where
+  pub ready : Ready g r
   pub fewer : r.more ≤ t.more
   pub tells : r.tells ≡ t.tells
   pub unfit :
-      r.spot.stop ≡ unfit_number →
-      (unfit_of s types starts t.more (config_in s list before t) ≡ true) × (r.spot.left ≡ 0)
-  pub fit : r.spot.stop ≢ unfit_number → Goes s types starts list before after l m t r
-  pub calm : t.tells ≡ false → r.spot.stop ≢ unfit_number
+      r.spot.stop ≡ Unfit →
+      (unfit_of g t.more (config_in g before t) ≡ true) × (r.spot.left ≡ 0)
+  pub fit : r.spot.stop ≢ Unfit → Goes g before after l m t r
+  pub calm : t.tells ≡ false → r.spot.stop ≢ Unfit
 
 pub upto_nothing :
-    (s types starts list cells l : List ℕ) (t : Turn) →
-    Ready s starts list t →
-    t.spot.stop ≢ unfit_number →
-    Upto s types starts list cells cells l l t t
+    (g : Ground) (cells : Cells) (l : List ℕ) (t : Turn) →
+    Ready g t →
+    t.spot.stop ≢ Unfit →
+    Upto g cells cells l l t t
 unfolding events_bytes join
-upto_nothing s types starts list cells l t h ne =
+upto_nothing g cells l t h ne =
     let z : t.more - t.more ≡ 0 = omega arith in
-    let c = config_in s list cells t in
+    let c = config_in g cells t in
     record {
       ready = h;
       fewer = omega arith;
@@ -110,7 +110,7 @@ upto_nothing s types starts list cells l t h ne =
       fit =
           λ _. record {
             added = [];
-            rest = ap (steps_of s types starts t.more) (sym (shifted_nothing c) ∙ ap (λ (k : ℕ). shifted [] k c) (sym z));
+            rest = ap (steps_of g t.more) (sym (shifted_nothing c) ∙ ap (λ (k : ℕ). shifted [] k c) (sym z));
             same = refl;
             wrote = wrote_nothing;
             waited = λ _. refl;
@@ -145,10 +145,6 @@ unfolding unfit_within
 unfit_now ctx bs n c h = λ i. not (h i) || unfit_within ctx bs n (take_step ctx bs c)
 
 -- ---- one step more
-pub going : (left more : ℕ) → ltb 0 left && ltb 0 more ≡ true → (0 < left) × (0 < more)
-going left more h =
-    (ltb-true 0 left (and_left (ltb 0 left) (ltb 0 more) h), ltb-true 0 more (and_right (ltb 0 left) (ltb 0 more) h))
-
 -- with so many steps still to take
 abbrev pub with_more : ℕ → Turn → Turn
 with_more n t =
@@ -160,36 +156,36 @@ quiet_then true false h e = sym e
 quiet_then false false h e = sym h
 
 module _
-    (s types starts list before mid after l m o : List ℕ) (t u r : Turn)
-    (upto : Upto s types starts list before mid l m t u)
+    (g : Ground) (before mid after : Cells) (l m o : List ℕ) (t u r : Turn)
+    (upto : Upto g before mid l m t u)
     (left : 0 < u.spot.left)
     (more : 0 < u.more)
-    (stepped : Stepped s types starts list mid after m o u r)
-    (went : waiting s u ≡ false)
-    (calm : quiet (code_at s u.spot.at) ≡ true → Calm u r)
+    (stepped : Stepped g mid after m o u r)
+    (went : waiting g.s.now u ≡ false)
+    (calm : quiet (code_at g.s.now u.spot.at) ≡ true → Calm u r)
   where
     abbrev n : ℕ
     n = u.more - 1
 
-    goes : Goes s types starts list before mid l m t u
+    goes : Goes g before mid l m t u
     goes = upto.fit (λ e. omega (arith, left, (upto.unfit e).1))
 
     calm_then : t.tells ≡ false → Calm u r
-    calm_then e = calm (quiet_then u.tells (quiet (code_at s u.spot.at)) went (upto.tells ∙ e))
+    calm_then e = calm (quiet_then u.tells (quiet (code_at g.s.now u.spot.at)) went (upto.tells ∙ e))
 
-    goes_on : r.spot.stop ≢ unfit_number → Goes s types starts list before after l o t (with_more n r)
+    goes_on : r.spot.stop ≢ Unfit → Goes g before after l o t (with_more n r)
     goes_on ne =
         let does = stepped.fit ne in
         let z : u.more ≡ suc n = one_more u.more more in
-        let c = config_in s list mid u in
-        let d = config_in s list after r in
+        let c = config_in g mid u in
+        let d = config_in g after r in
         let es = goes.added in
         let fs = does.added in
         let k = t.more - u.more in
         let few : u.more ≤ t.more = upto.fewer in
         let counts : k + 1 ≡ t.more - n = omega arith in
-        let ctx = told_types types in
-        let bs = laid_out s starts in
+        let ctx = told_types g.types.now in
+        let bs = blocks_of g in
         record {
           added = es ++ fs;
           rest =
@@ -199,16 +195,16 @@ module _
               ap (λ (j : ℕ). steps ctx bs n (shifted (es ++ fs) j d)) counts;
           same =
               goes.same ∙ ap (λ (j : ℕ). unfit_within ctx bs j c) z ∙ unfit_on ctx bs n c d fs does.fits does.takes;
-          wrote = events_then (id_width s) es fs goes.wrote does.wrote;
+          wrote = events_then (id_width g.s.now) es fs goes.wrote does.wrote;
           waited =
               λ e.
               let same : r.event ≡ u.event = (calm_then e).event in
-              let end : r.event ≡ u.event + length (events_bytes (id_width s) fs) = does.wrote.end in
-              let none : fs ≡ [] = no_bytes (id_width s) fs (omega (arith, same, end)) in
+              let end : r.event ≡ u.event + length (events_bytes (id_width g.s.now) fs) = does.wrote.end in
+              let none : fs ≡ [] = no_bytes (id_width g.s.now) fs (omega (arith, same, end)) in
               (λ i. goes.waited e i ++ none i);
         }
 
-    pub upto_step : Upto s types starts list before after l o t (with_more n r)
+    pub upto_step : Upto g before after l o t (with_more n r)
     upto_step =
         let few : u.more ≤ t.more = upto.fewer in
         record {
@@ -219,36 +215,11 @@ module _
           tells = stepped.tells ∙ upto.tells;
           unfit =
               λ e.
-              let ctx = told_types types in
-              let bs = laid_out s starts in
-              let c = config_in s list mid u in
+              let ctx = told_types g.types.now in
+              let bs = blocks_of g in
+              let c = config_in g mid u in
               let h = stepped.unfit e in
               (goes.same ∙ ap (λ (j : ℕ). unfit_within ctx bs j c) (one_more u.more more) ∙ unfit_now ctx bs n c h.0, h.1);
           fit = goes_on;
           calm = λ e. (calm_then e).stop;
         }
-
--- ---- no more steps
-module _ (s types starts list before after l m : List ℕ) (t r : Turn) (upto : Upto s types starts list before after l m t r) where
-  came : (t.tells ≡ true → (r.spot.left ≡ 0) ⊎ (r.more ≡ 0)) → Came s types starts list before after l m t r
-  came ended =
-      record {
-        ready = upto.ready;
-        fewer = upto.fewer;
-        unfit = λ e. (upto.unfit e).0;
-        fit = upto.fit;
-        ended = ended;
-        calm = upto.calm;
-      }
-
-  pub came_waiting : waiting s r ≡ true → Came s types starts list before after l m t r
-  came_waiting h =
-      let silent : r.tells ≡ false = not-true r.tells (and_left (not r.tells) _ h) in
-      came (λ e. never (sym e ∙ sym upto.tells ∙ silent))
-
-  pub came_over : ltb 0 r.spot.left && ltb 0 r.more ≡ false → Came s types starts list before after l m t r
-  came_over h = came (λ _. ended (ltb 0 r.spot.left) refl h)
-    where
-      ended : (b : Bool) → ltb 0 r.spot.left ≡ b → b && ltb 0 r.more ≡ false → (r.spot.left ≡ 0) ⊎ (r.more ≡ 0)
-      ended true e f = inr (omega (arith, ltb-false 0 r.more f))
-      ended false e f = inl (omega (arith, ltb-false 0 r.spot.left e))

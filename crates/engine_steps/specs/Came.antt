@@ -6,7 +6,10 @@ use Rattle.running.specs.Steps.{Config, steps, shifted}
 use Rattle.running.specs.House.{events_bytes}
 use Rattle.running.specs.Engine.{unfit_within}
 use Rattle.write_bytes.specs.Put.{Wrote}
-use Rattle.engine_quiet.specs.Spot.{unfit_number, laid_out, told_types, quiet, code_at}
+use Rattle.engine_cells.specs.declared.Cells.{Cells}
+use Rattle.engine_quiet.specs.declared.Ground.{Ground}
+use Rattle.engine_quiet.specs.declared.Over.TheVariants.{Unfit}
+use Rattle.engine_quiet.specs.Spot.{told_types, blocks_of, quiet, code_at}
 use Rattle.engine_events.specs.declared.Turn.{Turn}
 use Rattle.engine_events.specs.Turn.{config_in, Ready}
 
@@ -14,37 +17,36 @@ use Rattle.engine_events.specs.Turn.{config_in, Ready}
 abbrev pub waiting : List ℕ → Turn → Bool
 waiting s t = not t.tells && not (quiet (code_at s t.spot.at))
 
-module _ (s types starts : List ℕ) where
+module _ (g : Ground) where
   -- k steps of the machine, and whether one of them takes an answer that does not fit
   abbrev pub steps_of : ℕ → Config → Config
-  steps_of k c = steps (told_types types) (laid_out s starts) k c
+  steps_of k c = steps (told_types g.types.now) (blocks_of g) k c
 
   abbrev pub unfit_of : ℕ → Config → Bool
-  unfit_of k c = unfit_within (told_types types) (laid_out s starts) k c
+  unfit_of k c = unfit_within (told_types g.types.now) (blocks_of g) k c
 
 -- from t to r by a step without an event: nothing is written, and nothing is unfit
 pub record Calm (t r : Turn) : Type 0 where
   pub event : r.event ≡ t.event
-  pub stop : r.spot.stop ≢ unfit_number
+  pub stop : r.spot.stop ≢ Unfit
 
 -- from t to r; before and after: the cells; l and m: what was lent for the events
-pub record Goes (s types starts list before after l m : List ℕ) (t r : Turn) : Type 0 where
+pub record Goes (g : Ground) (before after : Cells) (l m : List ℕ) (t r : Turn) : Type 0 where
   pub added : List Event
   -- the steps that t may take are those from r on, behind what was done so far
   pub rest :
-      steps_of s types starts t.more (config_in s list before t) ≡
-      steps_of s types starts r.more (shifted added (t.more - r.more) (config_in s list after r))
-  pub same :
-      unfit_of s types starts t.more (config_in s list before t) ≡ unfit_of s types starts r.more (config_in s list after r)
-  pub wrote : Wrote l m t.event r.event (events_bytes (id_width s) added)
+      steps_of g t.more (config_in g before t) ≡
+      steps_of g r.more (shifted added (t.more - r.more) (config_in g after r))
+  pub same : unfit_of g t.more (config_in g before t) ≡ unfit_of g r.more (config_in g after r)
+  pub wrote : Wrote l m t.event r.event (events_bytes (id_width g.s.now) added)
   pub waited : t.tells ≡ false → added ≡ []
 
-pub record Came (s types starts list before after l m : List ℕ) (t r : Turn) : Type 0 where
-  pub ready : Ready s starts list r
+pub record Came (g : Ground) (before after : Cells) (l m : List ℕ) (t r : Turn) : Type 0 where
+  pub ready : Ready g r
   pub fewer : r.more ≤ t.more
-  pub unfit : r.spot.stop ≡ unfit_number → unfit_of s types starts t.more (config_in s list before t) ≡ true
-  pub fit : r.spot.stop ≢ unfit_number → Goes s types starts list before after l m t r
+  pub unfit : r.spot.stop ≡ Unfit → unfit_of g t.more (config_in g before t) ≡ true
+  pub fit : r.spot.stop ≢ Unfit → Goes g before after l m t r
   -- to the end, if events are told
   pub ended : t.tells ≡ true → (r.spot.left ≡ 0) ⊎ (r.more ≡ 0)
   -- no answer is taken before events are told
-  pub calm : t.tells ≡ false → r.spot.stop ≢ unfit_number
+  pub calm : t.tells ≡ false → r.spot.stop ≢ Unfit

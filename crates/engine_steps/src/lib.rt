@@ -1,80 +1,54 @@
-// The machine by steps: one instruction, and as many as may be done. s: the record; w: the bytes of an id; starts: the places of the blocks;
-// list: the answers; out: what was lent for the events.
+// The machine by steps: one instruction, and as many as may be done. g: what the run rests on; out: what was lent for the events.
 #![tactic(auto)]
 
-ghost use Rattle.std.specs.Prelude.{◌≡◌, true, ◌≢◌, ◌+◌, ◌<◌, length};
-ghost use Rattle.record.specs.Decode.{id_width};
-ghost use Rattle.read_fields.specs.Places.{places};
-ghost use Rattle.engine_cells.specs.Cells.{most_words};
-ghost use Rattle.engine_quiet.specs.Spot.{unfit_number, Grounded, quiet, code_at};
-ghost use Rattle.engine_events.specs.Turn.{Ready, Stepped};
-ghost use Rattle.engine_steps.specs.Came.{waiting, Calm, Came};
+ghost use Rattle.std.specs.Prelude.{◌≡◌, true, not, ◌&&◌, ◌≢◌};
+ghost use Rattle.engine_quiet.specs.Spot.{Grounded, quiet, code_at};
+ghost use Rattle.engine_events.specs.Turn.{Ready, Going, Stepped};
+ghost use Rattle.engine_steps.specs.Came.{Calm, Came};
 
+use engine_cells::Cells;
 use engine_events::Turn;
+use engine_quiet::{Ground, Over};
 
-// Whether the run waits: events are not told yet, and the instruction at which it stands has one.
-fn waits(s: &[u8], w: usize, t: Turn) -> bool
-    requires { (w ≡ id_width s.now) × (t.spot.at + w < places) }
-    ensures { result ≡ waiting s.now t }
+// Whether the run waits before an instruction of this code: events are not told yet, and it has one.
+fn waits(code: u64, t: Turn) -> bool
+    ensures { result ≡ (not t.tells && not (quiet code)) }
 {
-    !t.tells & !engine_quiet::quiet(read_fields::byte_or(s, t.spot.at + w))
+    !t.tells && !engine_quiet::quiet(code)
 }
 
 // The instruction at which the run stands.
-fn step(
-    s: &[u8],
-    w: usize,
-    types: &[u8],
-    starts: &[u32],
-    list: &[u8],
-    cells: &mut [u64],
-    out: &mut [u8],
-    t: Turn,
-) -> Turn
-    requires { Grounded s.now starts.now × (Ready s.now starts.now list.now t × ((0 < t.spot.left) ×
-        ((length cells.old ≡ most_words) × (w ≡ id_width s.now)))) }
-    ensures { Stepped s.now types.now starts.now list.now
-        cells.old cells.new out.old out.new t result ×
-        (quiet (code_at s.now t.spot.at) ≡ true → Calm t result) }
+fn step(g: &Ground, code: u64, cells: &mut Cells, out: &mut [u8], t: Turn) -> Turn
+    requires going { Going g.now t }
+    requires coded { code ≡ code_at g.now.s.now t.spot.at }
+    ensures { Stepped g.now cells.old cells.new out.old out.new t result ×
+        (quiet (code_at g.now.s.now t.spot.at) ≡ true → Calm t result) }
 {
-    let code = read_fields::byte_or(s, t.spot.at + w);
     if engine_quiet::quiet(code) {
         return Turn {
-            spot: engine_quiet::quiet_step(s, w, types, starts, code, cells, t.spot),
-            more: t.more,
-            answer: t.answer,
-            answers: t.answers,
-            event: t.event,
-            tells: t.tells,
+            spot: engine_quiet::quiet_step(g, code, cells, t.spot),
+            ..t
         };
     }
-    engine_events::event_step(s, w, types, starts, list, cells, out, t)
+    engine_events::event_step(g, cells, out, t)
 }
 
 // As many steps as may be taken; where events are not told yet, as far as the first instruction with one.
-pub fn steps(
-    s: &[u8],
-    w: usize,
-    types: &[u8],
-    starts: &[u32],
-    list: &[u8],
-    cells: &mut [u64],
-    out: &mut [u8],
-    t0: Turn,
-) -> Turn
-    requires { Grounded s.now starts.now × (Ready s.now starts.now list.now t0 ×
-        ((length cells.old ≡ most_words) × ((w ≡ id_width s.now) × (t0.spot.stop ≢ unfit_number)))) }
-    ensures { Came s.now types.now starts.now list.now
-        cells.old cells.new out.old out.new t0 result }
+pub fn steps(g: &Ground, cells: &mut Cells, out: &mut [u8], mut t: Turn) -> Turn
+    requires grounded { Grounded g.now }
+    requires ready { Ready g.now t }
+    requires fit { t.spot.stop ≢ Over.Unfit }
+    ensures { Came g.now cells.old cells.new out.old out.new t result }
 {
-    let mut t = t0;
-    while (t.spot.left > 0) & (t.more > 0) {
-        if waits(s, w, t) {
+    while t.spot.left > 0 && t.more > 0 {
+        let code = read_fields::byte_or(g.s, t.spot.at + g.w);
+        if waits(code, t) {
             return t;
         }
-        let more = t.more - 1;
-        t = step(s, w, types, starts, list, cells, out, t);
-        t.more = more;
+        t = Turn {
+            more: t.more - 1,
+            ..step(g, code, cells, out, t)
+        };
     }
     t
 }

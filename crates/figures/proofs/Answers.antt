@@ -7,8 +7,8 @@ use native.Mathlib.Omega.{arith}
 use lib.ListN.{length, drop, length-map}
 use lib.Dec.{ltb}
 use borrow.Author.Tests.{lt-ltb, le-ltb}
-use Rattle.record.specs.declared.Refusal.{Refusal}
-use Rattle.record.specs.declared.Checked.TheVariants as answer
+use Rattle.std.specs.Prelude.{Ok, Err}
+use Rattle.record.specs.declared.Fault.{Fault}
 use Rattle.record.specs.Record.{Instr, Block, function, names_of, id_bytes}
 use Rattle.record.specs.Reader.{got, num_at}
 use Rattle.record.specs.Write.{join, block_bytes, bytes}
@@ -17,7 +17,8 @@ use Rattle.record.specs.Decode.{items, names_end, record_from}
 use Rattle.record.specs.Again.{blocks_in, record_in, Reads}
 use Rattle.record.proofs.Again.{blocks_again, blocks_number}
 use Rattle.record.proofs.Judged.{accepted_as, refused_as}
-use Rattle.numbering.specs.declared.Figured.TheVariants.{Counted, Refused, TooFew}
+use Rattle.numbering.specs.declared.FiguresError.TheVariants.{Refused, TooFew}
+use Rattle.numbering.specs.Rewrite.{totals}
 use Rattle.numbering.specs.Number.{blocks_lvn, made_from, lvn}
 use Rattle.numbering.specs.Made.{made_names, made, rewriting}
 use Rattle.numbering.specs.Rewrite.{rewritten_bytes}
@@ -28,13 +29,13 @@ use Rattle.write_bytes.proofs.Put.{put_first}
 use Rattle.read_layout.specs.declared.Layout.{Layout}
 use Rattle.read_layout.specs.Layout.{layout_of}
 use Rattle.lvn_blocks.specs.Block.{indexes}
-use Rattle.rewrite.specs.Parts.{rewriting_in, figures_in, blocks_bytes, Noted}
+use Rattle.rewrite.specs.Parts.{rewriting_in, figures_in, blocks_bytes}
 use Rattle.rewrite.proofs.Known.{front_measured}
 use Rattle.rewrite.proofs.Parts.{parts_size}
 use Rattle.figures.specs.Answers.{FiguredAs}
 
 -- ---- an accepted record: what the definition says of it
-module _ (s : List ℕ) (h : checked s ≡ answer.Accepted) (each : List ℕ) where
+module _ (s : List ℕ) (h : checked s ≡ Ok tt) (each : List ℕ) where
   pub accepted_result : figures_result (length each) (got (record_from s) 0) ≡ figures s each
   unfolding figures figures_result
   accepted_result = sym (ap (figures_result (length each)) (accepted_as s h).got)
@@ -44,14 +45,14 @@ module _ (s : List ℕ) (h : checked s ≡ answer.Accepted) (each : List ℕ) wh
   accepted_places = sym (ap (figures_places each) (accepted_as s h).got)
 
 -- ---- a refusal of check
-module _ (s : List ℕ) (k : Refusal) (o : ℕ) (h : checked s ≡ answer.Refused k o) (each : List ℕ) where
-  pub refused_result : Refused k o ≡ figures s each
+module _ (s : List ℕ) (f : Fault) (h : checked s ≡ Err f) (each : List ℕ) where
+  pub refused_result : Err (Refused f) ≡ figures s each
   unfolding figures figures_result
-  refused_result = sym (ap (figures_result (length each)) (refused_as s k o h))
+  refused_result = sym (ap (figures_result (length each)) (refused_as s f h))
 
   pub refused_places : each ≡ figures_leaves s each
   unfolding figures_leaves figures_places
-  refused_places = sym (ap (figures_places each) (refused_as s k o h))
+  refused_places = sym (ap (figures_places each) (refused_as s f h))
 
 -- ---- counted, or too few places; count: B
 module _ (s each : List ℕ) (count : ℕ) (b : count ≡ num_at s (names_end s) 2) where
@@ -64,17 +65,17 @@ module _ (s each : List ℕ) (count : ℕ) (b : count ≡ num_at s (names_end s)
   enough : count ≤ length each → ltb (length each) (length (record_from s).blocks) ≡ false
   enough l = le-ltb (length each) (length (record_from s).blocks) (omega (arith, many, l))
 
-  pub too_few : length each < count → FiguredAs s each TooFew each
+  pub too_few : length each < count → FiguredAs s each (Err TooFew) each
   unfolding figures_result figures_places
   too_few l = rw (few l) (refl, refl)
 
   pub counted :
       {n k : ℕ} {each' : List ℕ} → count ≤ length each → n ≡ length (bytes (rewriting_in s)) → k ≡ length (made (record_in s)) →
-      each' ≡ put each 0 (figures_in s) → FiguredAs s each (Counted n k) each'
+      each' ≡ put each 0 (figures_in s) → FiguredAs s each (Ok (totals n k)) each'
   unfolding figures_result figures_places rewritten_bytes block_figures
   counted l size saves e =
       rw (enough l) (
-        (λ i. Counted (size i) (saves i)),
+        (λ i. Ok (totals (size i) (saves i))),
         e ∙ put_first each (figures_in s) (omega (arith, many, figures_many (record_from s), l)) ∙
             ap (λ (m : ℕ). figures_in s ++ drop m each) (figures_many (record_from s)),
       )
@@ -106,17 +107,16 @@ module _ {s : List ℕ} {end : ℕ} (h : Reads s end) (z : num_at s end 2 ≡ 0)
   unfolding rewriting made_from
   made_none = ap (made_from (names_of (function (record_in s)))) written_none
 
-  noted_none : Noted s [] 0
-  noted_none =
-      record { many = ap length (sym made_none); room = omega arith; saved = ap indexes (sym made_none) }
+  row_none : [] ≡ indexes (made (record_in s))
+  row_none = ap indexes (sym made_none)
 
-  pub itself : (each : List ℕ) → FiguredAs s each (Counted (end + 2) 0) each
+  pub itself : (each : List ℕ) → FiguredAs s each (Ok (totals (end + 2) 0)) each
   unfolding put made_names join
   itself each =
-      let front = front_measured h noted_none {n = 0} refl in
+      let front = front_measured h row_none {n = 0} refl in
       let w = id_bytes (rewriting_in s).version in
       let rest : 0 ≡ length (blocks_bytes (rewriting_in s)) =
       ap (λ (bs : List (Block Instr)). length (join (map (block_bytes w) bs))) (sym written_none) in
       let size = parts_size (rewriting_in s) 0 (end + 2 + 0) 0 front rest in
-      counted s each 0 count_none (omega arith) (omega (arith, size)) noted_none.many
+      counted s each 0 count_none (omega arith) (omega (arith, size)) (ap length (sym made_none))
       (ap (λ (bs : List (Block Instr)). put each 0 (map instructions bs)) (sym written_none))

@@ -2,8 +2,7 @@
 use Rattle.std.specs.Prelude.{ℕ, List, ◌≡◌, length}
 use Rattle.record.specs.Reader.{got}
 use Rattle.record.specs.Decode.{record_from}
-use Rattle.numbering.specs.declared.Figured.{Figured}
-use Rattle.numbering.specs.Figures.{figures_result, figures_places}
+use Rattle.numbering.specs.Figures.{Figured, figures_result, figures_places}
 
 -- the answer and what it leaves of the places are those of the record that stands in these bytes
 abbrev pub FiguredAs : List ℕ → List ℕ → Figured → List ℕ → Type 0

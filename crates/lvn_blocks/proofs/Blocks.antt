@@ -97,15 +97,16 @@ pub record Going
   pub close : at.q + longest_block_lines * n ≤ at₀.q + longest_block_lines * n₀
 
 module _ {w : ℕ} {f : Function} {s : List ℕ} {at₀ : Spot} {n₀ : ℕ} {made₀ each₀ out₀ : List ℕ} where
-  pub going_all : Going w f s at₀ n₀ made₀ each₀ out₀ at₀ 0 n₀ made₀ each₀ out₀
-  going_all =
+  pub going_all : {n : ℕ} → n ≡ n₀ → Going w f s at₀ n₀ made₀ each₀ out₀ at₀ 0 n made₀ each₀ out₀
+  going_all e =
       let all = map instructions (blocks_lvn f 0 (blocks_in w s at₀.p n₀)) in
-      record {
+      subst (λ m. Going w f s at₀ n₀ made₀ each₀ out₀ at₀ 0 m made₀ each₀ out₀) (sym e)
+      (record {
         written = rest_all;
         noted = rest_all;
         figured = subst (λ (i : ℕ). Rest each₀ i all each₀ 0 all) (omega arith) rest_all;
         close = omega arith;
-      }
+      })
 
   pub going_none :
       {at : Spot} (c : SaveCount) (n : ℕ) {made each out : List ℕ} → n ≡ 0 → c.k ≡ c.total →
@@ -126,21 +127,22 @@ module _ {w : ℕ} {f : Function} {s : List ℕ} {at₀ : Spot} {n₀ : ℕ} {ma
         close = let x : at.q + longest_block_lines * n ≤ at₀.q + longest_block_lines * n₀ = g.close in omega arith;
       }
 
-  -- v: how many instructions are written of the block
+  -- m: one less than n; v: how many instructions are written of the block, at the place i
   pub going_less :
-      (at : Spot) (c : SaveCount) (r : Spot) (c' : SaveCount) (n end m v : ℕ) {made made' each each' out out' : List ℕ} →
-      0 < n → n ≤ n₀ →
-      BlockDone (layout_for w f end m) s (type_in f.types) at c r c' made made' out out' →
-      v ≡ length (numbered_in (layout_for w f end m) s (type_in f.types) at.p c.k).body →
-      each' ≡ put each (n₀ - n) (v ∷ []) →
+      (at : Spot) (c : SaveCount) (r : Spot) (c' : SaveCount) (n m end l v i : ℕ) {made made' each each' out out' : List ℕ} →
+      0 < n → n ≤ n₀ → m ≡ n - 1 → i ≡ n₀ - n →
+      BlockDone (layout_for w f end l) s (type_in f.types) at c r c' made made' out out' →
+      v ≡ length (numbered_in (layout_for w f end l) s (type_in f.types) at.p c.k).body →
+      each' ≡ put each i (v ∷ []) →
       Going w f s at₀ n₀ made₀ each₀ out₀ at c.k n made each out →
-      Going w f s at₀ n₀ made₀ each₀ out₀ r c'.k (n - 1) made' each' out'
-  going_less at c r c' n end m v {each = each} h l d size store g =
+      Going w f s at₀ n₀ made₀ each₀ out₀ r c'.k m made' each' out'
+  going_less at c r c' n m end l v i {made' = made'} {each = each} {each' = each'} {out' = out'} h few one place d size store g =
       let b = first w f s at.p c.k n h in
       let bs = others w f s at.p c.k n h in
       let e : blocks_lvn f c'.k (blocks_in w s r.p (n - 1)) ≡ bs =
       λ z. blocks_lvn f (d.temps z) (blocks_in w s (d.next z) (n - 1)) in
-      record {
+      subst (λ j. Going w f s at₀ n₀ made₀ each₀ out₀ r c'.k j made' each' out') (sym one)
+      (record {
         written =
             rest_less (block_bytes w (block_as (names_of f) b)) _ _
             (bytes_more w f s at.p c.k n h ∙
@@ -155,12 +157,12 @@ module _ {w : ℕ} {f : Function} {s : List ℕ} {at₀ : Spot} {n₀ : ℕ} {ma
             rest_less (length b.body ∷ []) _ _
             (figures_more w f s at.p c.k n h ∙
             ap (λ (x : List (Block Instr)). length b.body ∷ map instructions x) (sym e))
-            (record { out = store ∙ ap (λ (x : ℕ). put each (n₀ - n) (x ∷ [])) size; end = omega (arith, h, l) }) g.figured;
+            (record { out = store ∙ (λ z. put each (place z) (size z ∷ [])); end = omega (arith, h, few) }) g.figured;
         close =
             let x : at.q + longest_block_lines * n ≤ at₀.q + longest_block_lines * n₀ = g.close in
             let y : r.q ≤ at.q + longest_block_lines = d.close in
             omega arith;
-      }
+      })
 
 -- ---- the count: K and the total grow by the saves of a block alike
 module _
@@ -188,49 +190,44 @@ module _ {N : ℕ} (w : ℕ) (s : List ℕ) (p n : ℕ) (h : 0 < n) (a : BlocksP
       subst (λ (k : ℕ). BlocksPass N (blocks_in w s k (n - 1))) (sym e) (record { blocks = pass_more.blocks; each = pass_more.each.1 })
 
 pub block_passes :
-    {F : Layout} {s : List ℕ} {at : Spot} {c : SaveCount} {hs ns : List ℕ} → BlocksAsk F s at c 1 hs ns →
+    {F : Layout} {s : List ℕ} {at : Spot} {c : SaveCount} → BlocksAsk F s at c 1 →
     BlocksPass F.names (block_in F.width s at.p ∷ [])
 block_passes {F} {s} {at} b = pass_first F.width s at.p 1 (omega arith) b.passing
 
-module _
-    {F : Layout} {s : List ℕ} {at : Spot} {c : SaveCount} (n : ℕ) {hs ns : List ℕ} (h : 0 < n) (b : BlocksAsk F s at c n hs ns)
-  where
-    pub ask_one : BlocksAsk F s at c 1 hs ns
-    unfolding blocks_in items
-    ask_one =
-        record {
-          width = b.width;
-          names = b.names;
-          arguments = b.arguments;
-          heads = b.heads;
-          nums = b.nums;
-          made = let x : F.names + c.k + 256 * n < 65535 = b.made in omega arith;
-          total = b.total;
-          reads = let x : at.p + longest_block * n < places_end = b.reads in omega arith;
-          writes = let x : at.q + longest_block_lines * n < places_end = b.writes in omega arith;
-          passing = pass_first F.width s at.p n h b.passing;
-        }
+module _ {F : Layout} {s : List ℕ} {at : Spot} {c : SaveCount} (n : ℕ) (h : 0 < n) (b : BlocksAsk F s at c n) where
+  pub ask_one : BlocksAsk F s at c 1
+  unfolding blocks_in items
+  ask_one =
+      record {
+        width = b.width;
+        names = b.names;
+        arguments = b.arguments;
+        made = let x : F.names + c.k + 256 * n < 65535 = b.made in omega arith;
+        total = b.total;
+        reads = let x : at.p + longest_block * n < places_end = b.reads in omega arith;
+        writes = let x : at.q + longest_block_lines * n < places_end = b.writes in omega arith;
+        passing = pass_first F.width s at.p n h b.passing;
+      }
 
-    pub ask_less :
-        {ty : NameIx → ℕ} {r : Spot} {c' : SaveCount} {hs' ns' made made' out out' : List ℕ} →
-        length hs' ≡ length hs →
-        length ns' ≡ length ns →
-        BlockDone F s ty at c r c' made made' out out' →
-        BlocksAsk F s r c' (n - 1) hs' ns'
-    ask_less {r = r} {c' = c'} e f d =
-        let k : c'.k ≤ c.k + 256 = d.few in
-        record {
-          width = b.width;
-          names = b.names;
-          arguments = b.arguments;
-          heads = let x : 512 ≤ length hs = b.heads in omega arith;
-          nums = let x : 512 ≤ length ns = b.nums in omega arith;
-          made = let x : F.names + c.k + 256 * n < 65535 = b.made in omega arith;
-          total = let g = grown d in omega (arith, g, d.total, b.total);
-          reads = let x : at.p + longest_block * n < places_end = b.reads in let y : r.p ≤ at.p + longest_block = d.near in omega arith;
-          writes =
-              let x : at.q + longest_block_lines * n < places_end = b.writes in
-              let y : r.q ≤ at.q + longest_block_lines = d.close in
-              omega arith;
-          passing = pass_rest F.width s at.p n h b.passing r.p d.next;
-        }
+  -- m: one less than n
+  pub ask_less :
+      {ty : NameIx → ℕ} {r : Spot} {c' : SaveCount} {made made' out out' : List ℕ} (m : ℕ) → m ≡ n - 1 →
+      BlockDone F s ty at c r c' made made' out out' →
+      BlocksAsk F s r c' m
+  ask_less {r = r} {c' = c'} m one d =
+      let few : c'.k ≤ c.k + 256 = d.few in
+      record {
+        width = b.width;
+        names = b.names;
+        arguments = b.arguments;
+        made = let x : F.names + c.k + 256 * n < 65535 = b.made in omega arith;
+        total = let g = grown d in omega (arith, g, d.total, b.total);
+        reads = let x : at.p + longest_block * n < places_end = b.reads in let y : r.p ≤ at.p + longest_block = d.near in omega arith;
+        writes =
+            let x : at.q + longest_block_lines * n < places_end = b.writes in
+            let y : r.q ≤ at.q + longest_block_lines = d.close in
+            omega arith;
+        passing =
+            subst (λ (j : ℕ). BlocksPass F.names (blocks_in F.width s r.p j)) (sym one)
+            (pass_rest F.width s at.p n h b.passing r.p d.next);
+      }

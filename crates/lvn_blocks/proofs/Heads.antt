@@ -23,13 +23,10 @@ use Rattle.numbering.proofs.Saves.{instr_emits, block_temps}
 use Rattle.numbering.proofs.Passes.{saves_count, block_few}
 use Rattle.write_bytes.specs.Put.{put, Wrote}
 use Rattle.write_bytes.proofs.Wrote.{wrote_before, wrote_last}
-use Rattle.lvn_state.specs.View.{state_of}
 use Rattle.lvn_state.specs.Room.{room}
-use Rattle.lvn_state.specs.declared.LvnState.{LvnState}
-use Rattle.lvn_state.proofs.Room.{room_of, start_room}
+use Rattle.lvn_state.proofs.Room.{start_room}
 use Rattle.read_layout.specs.declared.Layout.{Layout}
 use Rattle.lvn_blocks.specs.declared.Spot.{Spot}
-use Rattle.lvn_blocks.specs.declared.Turn.{Turn}
 use Rattle.lvn_blocks.specs.declared.SaveCount.{SaveCount}
 use Rattle.lvn_blocks.specs.Block.{body_bytes, indexes, Asks, Done}
 use Rattle.lvn_blocks.specs.Blocks.{BlocksAsk, block_as, BlockDone, numbered_in}
@@ -115,36 +112,26 @@ module _ (F : Layout) (ty : NameIx → ℕ) (s : List ℕ) (p k : ℕ) (h : Bloc
 
 -- ---- what the body asks; count: how many instructions it has
 pub body_asks :
-    {F : Layout} {s : List ℕ} {at : Spot} {c : SaveCount} (st : LvnState) (count : ℕ) (env homes hs ns hs' : List ℕ) →
+    {F : Layout} {s : List ℕ} {at : Spot} {c : SaveCount} (st : State) (count : ℕ) →
     count ≡ num_at s at.p 2 →
-    BlocksAsk F s at c 1 hs ns →
-    length env ≡ 256 →
-    length homes ≡ 512 →
-    length hs' ≡ length hs →
-    state_of env homes st hs' ns ≡ start F.args c.k →
-    Asks F s env homes (record { st = st; at = record { p = at.p + 4; q = at.q + 4 } }) count hs' ns
-body_asks {F} {s} {at} {c} st count env homes hs ns hs' many b names numbers l e =
+    BlocksAsk F s at c 1 →
+    st ≡ start F.args c.k →
+    Asks F s st (record { p = at.p + 4; q = at.q + 4 }) count
+body_asks {F} {s} {at} {c} st count many b e =
     let h = block_passes b in
     let few : num_at s at.p 2 ≤ 256 = size_most F (λ x. 0) s at.p 0 h in
-    let k : st.made ≡ c.k = ap (λ (x : State). x.temps) e ∙ start_temps F.args c.k in
-    let m = length env in
+    let m : st.temps ≡ c.k = ap (λ (x : State). x.temps) e ∙ start_temps F.args c.k in
     let args_fit : F.args ≤ 256 = b.arguments in
-    let r : room m (state_of env homes st [] []) ≡ m =
-    room_of m env homes st [] [] hs' ns ∙ ap (room m) e ∙ start_room m F.args c.k (omega arith) in
-    let heads : 512 ≤ length hs = b.heads in
-    let nums : 512 ≤ length ns = b.nums in
+    let r : room 256 st ≡ 256 = ap (room 256) e ∙ start_room 256 F.args c.k (omega arith) in
     let is : (block_in F.width s at.p).body ≡ instrs_from F.width s (at.p + 4) count =
     body_again F.width s at.p ∙ ap (instrs_from F.width s (at.p + 4)) (sym many) in
     record {
       width = b.width;
-      some = omega (arith, names);
-      names = let x : F.names ≤ 256 = b.names in omega arith;
-      numbers = omega (arith, r, few, many, names, numbers);
-      made = let x : F.names + c.k + 256 * 1 < 65535 = b.made in omega (arith, k, few, many, x);
+      names = b.names;
+      numbers = omega (arith, r, few, many);
+      made = let x : F.names + c.k + 256 * 1 < 65535 = b.made in omega (arith, m, few, many, x);
       reads = let x : at.p + longest_block * 1 < places_end = b.reads in omega arith;
       writes = let x : at.q + longest_block_lines * 1 < places_end = b.writes in omega arith;
-      tables =
-          record { maps = record { names = omega arith; numbers = omega arith }; heads = omega arith; nums = omega arith };
       passing = subst (Passing F.names) is (passing_all F.names h.blocks (block_in F.width s at.p).body h.each.0.body);
     }
 
@@ -168,67 +155,67 @@ head_wrote {out} {m} {out'} {q} {p} w n saves b e f c d =
     (wrote_before 4 head rest l (wrote_last (join (map (instr_bytes w) b.body)) c) g)
 
 module _
-    {F : Layout} {s hs₀ ns₀ : List ℕ} (count : ℕ) (ty : NameIx → ℕ) (at : Spot) (c : SaveCount) (r : Turn) (st : LvnState)
-    (env homes hs ns : List ℕ) {made made' out m : List ℕ}
+    {F : Layout} {s : List ℕ} (count : ℕ) (ty : NameIx → ℕ) (at : Spot) (c : SaveCount) (r : Spot) (st st' : State)
+    {made made' out m : List ℕ}
     (many : count ≡ num_at s at.p 2)
-    (b : BlocksAsk F s at c 1 hs₀ ns₀)
-    (e : state_of env homes st hs ns ≡ start F.args c.k)
-    (d : Done F s ty (record { st = st; at = record { p = at.p + 4; q = at.q + 4 } }) r (state_of env homes st hs ns) count
-    made made' out m)
+    (b : BlocksAsk F s at c 1)
+    (e : st ≡ start F.args c.k)
+    (d : Done F s ty (record { p = at.p + 4; q = at.q + 4 }) r st st' count made made' out m)
   where
     abbrev block : Numbered
     block = numbered_in F s ty at.p c.k
 
-    same : block_lvn F.names ty (state_of env homes st hs ns) (instrs_from F.width s (at.p + 4) count) ≡ block
+    same : block_lvn F.names ty st (instrs_from F.width s (at.p + 4) count) ≡ block
     same =
         λ z. block_lvn F.names ty (e z)
         ((ap (instrs_from F.width s (at.p + 4)) many ∙ sym (body_again F.width s at.p)) z)
 
-    temps_are : r.st.made ≡ block.temps
+    temps_are : st'.temps ≡ block.temps
     temps_are = d.temps ∙ ap (λ (x : Numbered). x.temps) same
 
     -- so that the numbers of the head and the count are in range
-    pub head_fits : (count ≤ 256) × ((c.k ≤ r.st.made) × ((r.st.made ≤ c.k + 256) × (c.total + 256 < 65536)))
+    pub head_fits : (count ≤ 256) × ((c.k ≤ st'.temps) × ((st'.temps ≤ c.k + 256) × (c.total + 256 < 65536)))
     head_fits =
         let n : num_at s at.p 2 ≤ 256 = size_most F ty s at.p c.k (block_passes b) in
-        let k = temps_are in
+        let t = temps_are in
         let saved = saves_many F ty s at.p c.k (block_passes b) in
         let most = temps_most F ty s at.p c.k (block_passes b) in
         let last : F.names + c.k + 256 * 1 < 65535 = b.made in
-        (omega (arith, n, many), (omega (arith, k, saved), (omega (arith, k, most), omega (arith, last, b.total))))
+        (omega (arith, n, many), (omega (arith, t, saved), (omega (arith, t, most), omega (arith, last, b.total))))
 
     pub block_done :
-        {out' : List ℕ} →
-        out' ≡ put m at.q (be 2 (count + (r.st.made - c.k)) ++ be 2 (r.st.made - c.k)) →
-        BlockDone F s ty at c r.at (record { k = r.st.made; total = c.total + (r.st.made - c.k) }) made made' out out'
-    block_done {out'} o =
-        let k : r.st.made ≡ block.temps = temps_are in
+        {out' : List ℕ} (j : ℕ) → j ≡ st'.temps →
+        out' ≡ put m at.q (be 2 (count + (j - c.k)) ++ be 2 (j - c.k)) →
+        BlockDone F s ty at c r (record { k = j; total = c.total + (j - c.k) }) made made' out out'
+    block_done {out'} j is o =
+        let t : j ≡ block.temps = is ∙ temps_are in
         let saved = saves_many F ty s at.p c.k (block_passes b) in
         let lines = lines_many F ty s at.p c.k (block_passes b) in
         let n : count ≤ 256 = head_fits.0 in
-        let k₀ : st.made ≡ c.k = ap (λ (x : State). x.temps) e ∙ start_temps F.args c.k in
-        let saves : r.st.made - c.k ≡ count_saves F.names block.body = omega (arith, k, saved) in
-        let size : count + (r.st.made - c.k) ≡ length block.body = omega (arith, many, k, saved, lines) in
-        let body : Wrote out m (at.q + 4) r.at.q (body_bytes F.width block.body) =
-        subst (λ (x : Numbered). Wrote out m (at.q + 4) r.at.q (body_bytes F.width x.body)) same d.written in
-        let noted : Wrote made made' st.made r.st.made (indexes (saved_in F.names block.body)) =
-        subst (λ (x : Numbered). Wrote made made' st.made r.st.made (indexes (saved_in F.names x.body))) same d.noted in
+        let k₀ : st.temps ≡ c.k = ap (λ (x : State). x.temps) e ∙ start_temps F.args c.k in
+        let saves : j - c.k ≡ count_saves F.names block.body = omega (arith, t, saved) in
+        let size : count + (j - c.k) ≡ length block.body = omega (arith, many, t, saved, lines) in
+        let body : Wrote out m (at.q + 4) r.q (body_bytes F.width block.body) =
+        subst (λ (x : Numbered). Wrote out m (at.q + 4) r.q (body_bytes F.width x.body)) same d.written in
+        let noted : Wrote made made' st.temps st'.temps (indexes (saved_in F.names block.body)) =
+        subst (λ (x : Numbered). Wrote made made' st.temps st'.temps (indexes (saved_in F.names x.body))) same d.noted in
         record {
           written = head_wrote F.width _ _ (block_as F.names block) size saves body o;
-          noted = subst (λ (x : ℕ). Wrote made made' x r.st.made (indexes (saved_in F.names block.body))) k₀ noted;
-          temps = k;
+          noted =
+              subst (λ (x : ℕ). Wrote made made' c.k x (indexes (saved_in F.names block.body))) (sym is)
+              (subst (λ (x : ℕ). Wrote made made' x st'.temps (indexes (saved_in F.names block.body))) k₀ noted);
+          temps = t;
           total = ap (λ (x : ℕ). c.total + x) saves;
           next = d.next ∙ ap (instrs_end F.width s (at.p + 4)) many ∙ end_again F.width s at.p;
-          near = let x : r.at.p ≤ at.p + 4 + longest_instr * count = d.near in omega (arith, x, n);
-          close = let x : r.at.q ≤ at.q + 4 + longest_lines * count = d.close in omega (arith, x, n);
-          few = head_fits.1.1.0;
+          near = let x : r.p ≤ at.p + 4 + longest_instr * count = d.near in omega (arith, x, n);
+          close = let x : r.q ≤ at.q + 4 + longest_lines * count = d.close in omega (arith, x, n);
+          few = let f = head_fits.1.1.0 in omega (arith, is, f);
         }
 
 -- ---- how many instructions are written of a block, by its own count and by how the total of saves grew
 module _
-    {F : Layout} {s hs ns : List ℕ} {ty : NameIx → ℕ} {at : Spot} {c : SaveCount} {r : Spot} {c' : SaveCount}
-    {made made' out out' : List ℕ}
-    (b : BlocksAsk F s at c 1 hs ns)
+    {F : Layout} {s : List ℕ} {ty : NameIx → ℕ} {at : Spot} {c : SaveCount} {r : Spot} {c' : SaveCount} {made made' out out' : List ℕ}
+    (b : BlocksAsk F s at c 1)
     (d : BlockDone F s ty at c r c' made made' out out')
   where
     pub block_figure : num_at s at.p 2 + (c'.total - c.total) ≡ length (numbered_in F s ty at.p c.k).body

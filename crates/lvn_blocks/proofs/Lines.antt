@@ -1,12 +1,11 @@
 -- What is written of one instruction: the save that it owes and itself, as bytes, and what the save saves.
 use Prim.Native.Nat.{ℕ, ◌+◌, ◌≤◌}
 use mathlib.Core.Path.{◌≡◌, refl, sym, ap, ◌∙◌, subst}
-use mathlib.Core.Logic.{◌≢◌}
 use mathlib.Core.List.{List, [], ◌∷◌, ◌++◌, append_assoc}
 use mathlib.Core.Bool.{Bool, true, false, cond}
 use native.Mathlib.Omega.{arith}
 use lib.ListN.{length, set}
-use borrow.Author.Tests.{eq-eqb, ne_eqb}
+use Rattle.std.specs.Prelude.{Option as Maybe, None, Some, is_some}
 use Rattle.record.specs.declared.NameIx.{NameIx}
 use Rattle.record.specs.Record.{Instr, arg}
 use Rattle.record.specs.Write.{join, instr_bytes}
@@ -37,31 +36,34 @@ module _ {l m : List ℕ} {i p : ℕ} (w : ℕ) where
       Wrote l r i q (body_bytes w (is ++ js))
   body_then is js a b = rw (body_append w is js) (wrote_append (body_bytes w is) (body_bytes w js) a b)
 
-pub no_line : {l : List ℕ} {i : ℕ} (w : ℕ) (made : NameIx) (x : Instr) → made.0 ≡ 65535 → Wrote l l i i (body_bytes w (saves_of made x))
+-- m: the made name of the save that is owed before x, where one is
+pub no_line : {l : List ℕ} {i : ℕ} (w : ℕ) (m : Maybe NameIx) (x : Instr) → m ≡ None → Wrote l l i i (body_bytes w (saves_of m x))
 unfolding body_bytes join
-no_line w made x e = rw (eq-eqb made.0 65535 e) wrote_nothing
+no_line w m x e = rw e wrote_nothing
 
 pub one_line :
-    {l m : List ℕ} {i p : ℕ} {y : Instr} (w : ℕ) (made : NameIx) (x : Instr) →
-    made.0 ≢ 65535 →
+    {l r : List ℕ} {i p : ℕ} {y : Instr} (w : ℕ) (m : Maybe NameIx) (made : NameIx) (x : Instr) →
+    m ≡ Some made →
     y ≡ save_before x made →
-    Wrote l m i p (instr_bytes w y) →
-    Wrote l m i p (body_bytes w (saves_of made x))
-one_line {l} {m} {i} {p} w made x e d a =
-    rw (ne_eqb made.0 65535 e) (body_one w (save_before x made) (subst (λ (z : Instr). Wrote l m i p (instr_bytes w z)) d a))
+    Wrote l r i p (instr_bytes w y) →
+    Wrote l r i p (body_bytes w (saves_of m x))
+one_line {l} {r} {i} {p} w m made x e d a =
+    rw e (body_one w (save_before x made) (subst (λ (z : Instr). Wrote l r i p (instr_bytes w z)) d a))
 
 -- ---- the table of what each K saved
-module _ (l : List ℕ) (k : ℕ) (made : NameIx) (x : Instr) where
-  pub noted_one : made.0 ≢ 65535 → set l k x.dest.0 ≡ put l k (saved_by (saves_of made x))
+module _ (l : List ℕ) (k : ℕ) (x : Instr) where
+  pub noted_one : (m : Maybe NameIx) → is_some m ≡ true → set l k x.dest.0 ≡ put l k (saved_by (saves_of m x))
   unfolding put
-  noted_one e = rw (ne_eqb made.0 65535 e)
+  noted_one None e = absurd (cc)
+  noted_one (Some made) e = refl
 
-  pub noted_past : made.0 ≢ 65535 → length l ≤ k → l ≡ put l k (saved_by (saves_of made x))
-  noted_past e h = sym (put_out l k (saved_by (saves_of made x)) h)
+  pub noted_past : (m : Maybe NameIx) → length l ≤ k → l ≡ put l k (saved_by (saves_of m x))
+  noted_past m h = sym (put_out l k (saved_by (saves_of m x)) h)
 
-  pub noted_none : made.0 ≡ 65535 → l ≡ put l k (saved_by (saves_of made x))
+  pub noted_none : (m : Maybe NameIx) → is_some m ≡ false → l ≡ put l k (saved_by (saves_of m x))
   unfolding put
-  noted_none e = rw (eq-eqb made.0 65535 e)
+  noted_none None e = refl
+  noted_none (Some made) e = absurd (cc)
 
 -- ---- what is saved
 module _ (N : ℕ) where

@@ -1,5 +1,5 @@
 -- A block read again, numbered and written: what the code asks of it and what it then has.
-use Rattle.std.specs.Prelude.{ℕ, ◌+◌, ◌*◌, ◌<◌, ◌≤◌, List, [], ◌∷◌, ◌++◌, map, ◌≡◌, length}
+use Rattle.std.specs.Prelude.{ℕ, ◌+◌, ◌*◌, ◌<◌, ◌≤◌, List, [], ◌∷◌, ◌++◌, map, ◌≡◌}
 use Rattle.record.specs.declared.NameIx.{NameIx}
 use Rattle.record.specs.Record.{Instr, arg}
 use Rattle.record.specs.Write.{join, instr_bytes}
@@ -9,10 +9,9 @@ use Rattle.record.specs.Sizes.{longest_instr, longest_lines, places_end}
 use Rattle.numbering.specs.State.{State}
 use Rattle.numbering.specs.Number.{Emitted, instr_lvn, block_lvn, saved_in}
 use Rattle.write_bytes.specs.Put.{Wrote, IdWidth}
-use Rattle.lvn_state.specs.View.{state_of}
-use Rattle.lvn_state.specs.Room.{room, Tables}
+use Rattle.lvn_state.specs.Room.{room}
 use Rattle.read_layout.specs.declared.Layout.{Layout}
-use Rattle.lvn_blocks.specs.declared.Turn.{Turn}
+use Rattle.lvn_blocks.specs.declared.Spot.{Spot}
 
 -- ---- writing
 unfoldable pub body_bytes : ℕ → List Instr → List ℕ
@@ -29,31 +28,29 @@ indexes xs = map (λ x. x.0) xs
 abbrev pub lines : Emitted → List Instr
 lines e = e.saves ++ (e.instr ∷ [])
 
--- ---- what is asked where n instructions are left: that they pass their tests, and that the names of the input, the numbers and made
--- names that they can need, and the places that they reach all have room
-pub record Asks (F : Layout) (s env homes : List ℕ) (t : Turn) (n : ℕ) (hs ns : List ℕ) : Type 0 where
+-- ---- what is asked where n instructions are left, in the state st: that they pass their tests, and that the names of the input, the
+-- numbers and made names that they can need, and the places that they reach all have room
+pub record Asks (F : Layout) (s : List ℕ) (st : State) (at : Spot) (n : ℕ) : Type 0 where
   pub width : IdWidth F.width
-  pub some : 0 < length env
-  pub names : F.names ≤ length env
-  pub numbers : room (length env) (state_of env homes t.st [] []) + n ≤ length homes
-  pub made : F.names + t.st.made + n < 65535
-  pub reads : t.at.p + longest_instr * n < places_end
-  pub writes : t.at.q + longest_lines * n < places_end
-  pub tables : Tables env homes hs ns
-  pub passing : Passing F.names (instrs_from F.width s t.at.p n)
+  pub names : F.names ≤ 256
+  pub numbers : room 256 st + n ≤ 512
+  pub made : F.names + st.temps + n < 65535
+  pub reads : at.p + longest_instr * n < places_end
+  pub writes : at.q + longest_lines * n < places_end
+  pub passing : Passing F.names (instrs_from F.width s at.p n)
 
 -- ---- one instruction done: st is the state before it and st' behind it; made: the table of what each K saved
 abbrev pub emitted_from : Layout → List ℕ → (NameIx → ℕ) → State → ℕ → Emitted
 emitted_from F s ty st p = instr_lvn F.names ty st (instr_from F.width s p)
 
 pub record Turned
-    (F : Layout) (s : List ℕ) (ty : NameIx → ℕ) (t r : Turn) (st st' : State) (made made' out out' : List ℕ) : Type 0 where
-  pub state : st' ≡ (emitted_from F s ty st t.at.p).state
-  pub written : Wrote out out' t.at.q r.at.q (body_bytes F.width (lines (emitted_from F s ty st t.at.p)))
-  pub noted : Wrote made made' t.st.made r.st.made (indexes (saved_in F.names (lines (emitted_from F s ty st t.at.p))))
-  pub next : r.at.p ≡ instr_end F.width s t.at.p
-  pub near : r.at.p ≤ t.at.p + longest_instr
-  pub close : r.at.q ≤ t.at.q + longest_lines
+    (F : Layout) (s : List ℕ) (ty : NameIx → ℕ) (at r : Spot) (st st' : State) (made made' out out' : List ℕ) : Type 0 where
+  pub state : st' ≡ (emitted_from F s ty st at.p).state
+  pub written : Wrote out out' at.q r.q (body_bytes F.width (lines (emitted_from F s ty st at.p)))
+  pub noted : Wrote made made' st.temps st'.temps (indexes (saved_in F.names (lines (emitted_from F s ty st at.p))))
+  pub next : r.p ≡ instr_end F.width s at.p
+  pub near : r.p ≤ at.p + longest_instr
+  pub close : r.q ≤ at.q + longest_lines
 
 -- ---- n instructions done
 module _ (F : Layout) (s : List ℕ) (ty : NameIx → ℕ) where
@@ -64,10 +61,10 @@ module _ (F : Layout) (s : List ℕ) (ty : NameIx → ℕ) where
   temps_of st p n = (block_lvn F.names ty st (instrs_from F.width s p n)).temps
 
 pub record Done
-    (F : Layout) (s : List ℕ) (ty : NameIx → ℕ) (t r : Turn) (st : State) (n : ℕ) (made made' out out' : List ℕ) : Type 0 where
-  pub written : Wrote out out' t.at.q r.at.q (body_bytes F.width (body_of F s ty st t.at.p n))
-  pub noted : Wrote made made' t.st.made r.st.made (indexes (saved_in F.names (body_of F s ty st t.at.p n)))
-  pub temps : r.st.made ≡ temps_of F s ty st t.at.p n
-  pub next : r.at.p ≡ instrs_end F.width s t.at.p n
-  pub near : r.at.p ≤ t.at.p + longest_instr * n
-  pub close : r.at.q ≤ t.at.q + longest_lines * n
+    (F : Layout) (s : List ℕ) (ty : NameIx → ℕ) (at r : Spot) (st st' : State) (n : ℕ) (made made' out out' : List ℕ) : Type 0 where
+  pub written : Wrote out out' at.q r.q (body_bytes F.width (body_of F s ty st at.p n))
+  pub noted : Wrote made made' st.temps st'.temps (indexes (saved_in F.names (body_of F s ty st at.p n)))
+  pub temps : st'.temps ≡ temps_of F s ty st at.p n
+  pub next : r.p ≡ instrs_end F.width s at.p n
+  pub near : r.p ≤ at.p + longest_instr * n
+  pub close : r.q ≤ at.q + longest_lines * n

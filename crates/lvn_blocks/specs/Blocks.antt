@@ -1,11 +1,11 @@
 -- Whole blocks read again, numbered and written, and all blocks of a record: what the code asks of them and what it then has.
-use Rattle.std.specs.Prelude.{ℕ, ◌+◌, ◌*◌, ◌<◌, ◌≤◌, List, map, ◌≡◌, length}
+use Rattle.std.specs.Prelude.{ℕ, ◌+◌, ◌*◌, ◌<◌, ◌≤◌, List, map, ◌≡◌}
 use Rattle.record.specs.declared.NameIx.{NameIx}
 use Rattle.record.specs.Record.{Instr, Block, Function, names_of}
 use Rattle.record.specs.Write.{join, block_bytes}
 use Rattle.record.specs.Decode.{block_end}
 use Rattle.record.specs.Again.{block_in, blocks_in, BlocksPass}
-use Rattle.record.specs.Sizes.{most_names, most_body, most_numbers, longest_block, longest_block_lines, places_end}
+use Rattle.record.specs.Sizes.{most_names, most_body, longest_block, longest_block_lines, places_end}
 use Rattle.numbering.specs.State.{start}
 use Rattle.numbering.specs.Number.{Numbered, block_lvn, blocks_lvn, count_saves, saved_in, made_from}
 use Rattle.numbering.specs.Figures.{instructions}
@@ -17,12 +17,10 @@ use Rattle.lvn_blocks.specs.declared.Behind.{Behind}
 use Rattle.lvn_blocks.specs.Block.{indexes}
 
 -- ---- what n more blocks ask, from a place on, with the count c before them: that they pass their tests, and that there is room
-pub record BlocksAsk (F : Layout) (s : List ℕ) (at : Spot) (c : SaveCount) (n : ℕ) (hs ns : List ℕ) : Type 0 where
+pub record BlocksAsk (F : Layout) (s : List ℕ) (at : Spot) (c : SaveCount) (n : ℕ) : Type 0 where
   pub width : IdWidth F.width
   pub names : F.names ≤ most_names
   pub arguments : F.args ≤ most_names
-  pub heads : most_numbers ≤ length hs
-  pub nums : most_numbers ≤ length ns
   pub made : F.names + c.k + most_body * n < 65535
   pub total : c.total ≤ c.k
   pub reads : at.p + longest_block * n < places_end

@@ -3,17 +3,12 @@ use Prim.Native.Nat.{ℕ, suc, ◌<◌, ◌≤◌}
 use mathlib.Core.Path.{◌≡◌, refl, sym, ap, ◌∙◌, subst}
 use mathlib.Core.Logic.{◌≢◌}
 use mathlib.Core.List.{List, [], ◌∷◌}
-use mathlib.Core.Bool.{Bool, false, cond}
+use mathlib.Core.Bool.{Bool, cond}
 use mathlib.Core.Option.{Option, none, some}
+use Rattle.std.specs.Prelude.{Option as Maybe, None, Some}
 use native.Mathlib.Omega.{arith}
-use lib.Dec.{eqb}
-use lib.ListN.{length}
-use types.Run.{OneOf, miss}
-use denote.Enum.Declared.{tag_of}
-use Rattle.arith.specs.declared.One.{One}
 use Rattle.arith.specs.declared.One.TheVariants.{Id}
-use Rattle.arith.specs.declared.Two.{Two}
-use Rattle.arith.specs.Code.{code1, code2}
+use Rattle.arith.specs.Code.{code1}
 use Rattle.arith.specs.Value.{Val}
 use Rattle.arith.specs.Operation.{Expr, constant, one, two}
 use Rattle.record.specs.declared.NameIx.{NameIx}
@@ -23,37 +18,20 @@ use Rattle.record.specs.declared.Instruction.{Instruction}
 use Rattle.record.specs.Record.{no_lit, Instr}
 use Rattle.record.specs.Form.{form}
 use Rattle.record.specs.View.{instr_of}
-use Rattle.record.specs.contracts.Op as Ops
 use Rattle.numbering.specs.declared.ValNum.{ValNum}
 use Rattle.numbering.specs.State.{State, new_number, update_env, gen_new_vals, known}
-use Rattle.numbering.specs.Number.{reads, make_val_instr, make_id_instr, val_to_instr, rewrite_instr, Saved, handle_overwrite}
+use Rattle.numbering.specs.Number.{reads, make_id_instr, val_to_instr, rewrite_instr, Saved, handle_overwrite}
 use Rattle.numbering.specs.Number.{get_val_num, Emitted, unchanged, number_dest, place, by_form, instr_lvn}
 use Rattle.numbering.proofs.Saves.{gen_new_vals_temps}
 use Rattle.numbering.proofs.Overwritten.{overwritten, overwritten_next}
 use Rattle.numbering.proofs.Simplified.{MaybeOk}
 use Rattle.codes.specs.Op.{form_as}
 use Rattle.lvn_values.specs.Table.{val_num_of}
-use Rattle.lvn_state.specs.declared.LvnState.{LvnState}
-use Rattle.lvn_state.specs.View.{locs_of, state_of, saves_of, settled_at, settled}
+use Rattle.lvn_state.specs.View.{saves_of, settled_at, settled}
 use Rattle.lvn_state.specs.Room.{Low, room}
-use Rattle.lvn_state.proofs.Room.{next_room, room_of, gen_room}
+use Rattle.lvn_state.proofs.Room.{next_room, gen_room}
 use Rattle.lvn_instr.specs.View.{Ready, value_by, Any, has_dest, written_as, chosen, by_op}
 use Rattle.lvn_instr.proofs.Forms.{instr_form}
-
--- ---- the instruction of a value
-pub one_written :
-    (s : State) (homes : List ℕ) (i : Instr) (o : One) (a : ValNum) →
-    s.locs ≡ locs_of homes →
-    make_val_instr i (code1 o) (locs_of homes a ∷ []) ≡ val_to_instr s i (one o a)
-unfolding val_to_instr
-one_written s homes i o a e = ap (λ (f : ValNum → NameIx). make_val_instr i (code1 o) (f a ∷ [])) (sym e)
-
-pub two_written :
-    (s : State) (homes : List ℕ) (i : Instr) (o : Two) (a b : ValNum) →
-    s.locs ≡ locs_of homes →
-    make_val_instr i (code2 o) (locs_of homes a ∷ locs_of homes b ∷ []) ≡ val_to_instr s i (two o a b)
-unfolding val_to_instr
-two_written s homes i o a b e = ap (λ (f : ValNum → NameIx). make_val_instr i (code2 o) (f a ∷ f b ∷ [])) (sym e)
 
 -- ---- an instruction with a dest
 copy_alike : (k : Option Val) (s t : State) (i : Instr) (v : ValNum) → s.locs v ≡ t.locs v → make_id_instr k s i v ≡ make_id_instr k t i v
@@ -112,14 +90,14 @@ chosen_under : (s : State) (i w : Instr) (o : Option ValNum) → Under i w → U
 chosen_under s i w none h = h
 chosen_under s i w (some v) h = copied_under (known s v) s i v
 
-saves_under : (m : NameIx) (i j : Instr) → Under i j → saves_of m j ≡ saves_of m i
-saves_under m i j h =
-    λ z. cond (eqb m.0 65535) []
-    (record { id = h.id z; code = code1 Id; dest = m; lit = no_lit; args = h.dest z ∷ []; callee = 0; blocks = [] } ∷ [])
+saves_under : (m : Maybe NameIx) (i j : Instr) → Under i j → saves_of m j ≡ saves_of m i
+saves_under None i j h = refl
+saves_under (Some m) i j h =
+    λ z. record { id = h.id z; code = code1 Id; dest = m; lit = no_lit; args = h.dest z ∷ []; callee = 0; blocks = [] } ∷ []
 
 -- the parts that the code gives are those of the definition
 module _
-    (N : ℕ) (s : State) (i : Instr) (e : Option (Expr ValNum)) (q : Saved) (t : State) (w j : Instr) (m : NameIx) (o : Option ValNum)
+    (N : ℕ) (s : State) (i : Instr) (e : Option (Expr ValNum)) (q : Saved) (t : State) (w j : Instr) (m : Maybe NameIx) (o : Option ValNum)
     (overwrote : record { state = q.state; saves = saves_of m i } ≡ handle_overwrite N s i e)
     (wrote : w ≡ written_as s i e)
     (found : o ≡ val_num_of q.state e)
@@ -155,34 +133,18 @@ settled_next s x (some e) = settled_at_next s x e (get_val_num s e)
 
 -- seeing arguments asks for no more room
 pub seen_next :
-    (m : ℕ) (env homes : List ℕ) (s : LvnState) (hs ns : List ℕ) (xs : List NameIx) (t : State) →
-    t ≡ gen_new_vals (state_of env homes s hs ns) xs →
-    Low m xs →
-    room m (state_of env homes s [] []) < length homes →
-    t.next < length homes
-seen_next m env homes s hs ns xs t e low h =
-    let g = gen_new_vals (state_of env homes s hs ns) xs in
+    (s : State) (xs : List NameIx) (t : State) → t ≡ gen_new_vals s xs → Low 256 xs → room 256 s < 512 → t.next < 512
+seen_next s xs t e low h =
+    let g = gen_new_vals s xs in
     let n : t.next ≡ g.next = ap (λ (u : State). u.next) e in
-    let a : g.next ≤ room m g = next_room m g in
-    let b : room m g ≡ room m (state_of env homes s hs ns) = gen_room m (state_of env homes s hs ns) xs low in
-    let c : room m (state_of env homes s hs ns) ≡ room m (state_of env homes s [] []) = room_of m env homes s hs ns [] [] in
+    let a : g.next ≤ room 256 g = next_room 256 g in
+    let b : room 256 g ≡ room 256 s = gen_room 256 s xs low in
     omega arith
 
 pub seen_temps : (s : State) (xs : List NameIx) (t : State) → t ≡ gen_new_vals s xs → t.temps ≡ s.temps
 seen_temps s xs t e = ap (λ (u : State). u.temps) e ∙ gen_new_vals_temps s xs
 
 -- ---- by the operation
-pub no_dest : (o : Op) → OneOf (4 ∷ 5 ∷ 6 ∷ 7 ∷ 8 ∷ []) (tag_of Ops.the_type o) → false ≡ has_dest o
-no_dest ops.Const h = absurd (miss (4 ∷ 5 ∷ 6 ∷ 7 ∷ 8 ∷ []) 0 tt h)
-no_dest (ops.One o) h = absurd (miss (4 ∷ 5 ∷ 6 ∷ 7 ∷ 8 ∷ []) 1 tt h)
-no_dest (ops.Two o) h = absurd (miss (4 ∷ 5 ∷ 6 ∷ 7 ∷ 8 ∷ []) 2 tt h)
-no_dest (ops.New c) h = absurd (miss (4 ∷ 5 ∷ 6 ∷ 7 ∷ 8 ∷ []) 3 tt h)
-no_dest (ops.Effect c) h = refl
-no_dest ops.Nop h = refl
-no_dest ops.Jmp h = refl
-no_dest ops.Br h = refl
-no_dest ops.Ret h = refl
-
 pub by_dest :
     (N : ℕ) (s : State) (i : Instr) (o : Op) (e : Option (Expr ValNum)) (b : Bool) →
     has_dest o ≡ b →

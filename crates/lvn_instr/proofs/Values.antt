@@ -2,16 +2,10 @@
 use Prim.Native.Nat.{ℕ, ◌<◌}
 use mathlib.Core.Path.{◌≡◌, refl, sym, ap, ◌∙◌, subst}
 use mathlib.Core.Logic.{◌≢◌}
-use mathlib.Core.List.{List, [], ◌∷◌}
 use mathlib.Core.Bool.{Bool, true, false, cond}
-use mathlib.Core.Option
 use mathlib.Core.Option.{Option, none, some}
-use native.Mathlib.Omega.{arith}
-use lib.Dec.{eqb}
 use lib.ListN.{get_or}
-use types.Run.{OneOf, miss}
-use denote.Enum.Declared.{tag_of}
-use borrow.Author.Tests.{eq-eqb, ne_eqb, eqb-false}
+use borrow.Author.Tests.{eq-eqb, ne_eqb}
 use Rattle.arith.specs.declared.One.{One}
 use Rattle.arith.specs.declared.Two.{Two}
 use Rattle.arith.specs.Value.{Val, int, literal, bool}
@@ -25,16 +19,13 @@ use Rattle.record.specs.Record.{nm, Instr}
 use Rattle.record.specs.Form.{value_of, form}
 use Rattle.record.specs.Answer.{literal_of}
 use Rattle.record.specs.View.{instr_of}
-use Rattle.record.specs.contracts.Op as Ops
 use Rattle.numbering.specs.declared.ValNum.{ValNum}
-use Rattle.numbering.specs.State.{vn, State, number_of, home_of, known_expr, known}
+use Rattle.numbering.specs.State.{State, number_of, known}
 use Rattle.numbering.specs.Simplify.{simplify1, simplify2, simplify}
 use Rattle.numbering.specs.Number.{numbered, make_val}
 use Rattle.numbering.proofs.Simplified.{Closed, OptionOk, MaybeOk, simplify_ok}
 use Rattle.codes.specs.Op.{form_as}
-use Rattle.lvn_values.specs.Table.{vals_of}
-use Rattle.lvn_state.specs.View.{env_of, locs_of}
-use Rattle.lvn_instr.specs.View.{Ready, Reads, value_by, Any}
+use Rattle.lvn_instr.specs.View.{Ready, value_by, Any}
 use Rattle.lvn_instr.proofs.Forms.{instr_form, one_arg, two_args}
 
 -- ---- const
@@ -70,38 +61,6 @@ any_closed = record { ints = λ w l. tt; bools = λ b. tt; pointers = λ t b o. 
 any_known : (o : Option Val) → OptionOk Any o
 any_known none = tt
 any_known (some v) = tt
-
-slot_there : (v : ℕ) (b : Bool) → eqb v 65535 ≡ b → ◌≢◌ {A = ℕ} (Option.get_or (cond b none (some (vn v))) (vn 0)).0 65535
-slot_there v true e = λ p. omega arith
-slot_there v false e = eqb-false v 65535 e
-
--- 65535 stands for no number
-pub number_small : (env : List ℕ) (x : NameIx) (a : ValNum) → a ≡ Option.get_or (env_of env x) (vn 0) → a.0 < 65536 → a.0 < 65535
-unfolding env_of
-number_small env x a e h =
-    let v = get_or env x.0 65535 in
-    let n : a.0 ≡ 65535 → ⊥ = λ p. slot_there v (eqb v 65535) refl (sym (ap (λ (v : ValNum). v.0) e) ∙ p) in
-    omega arith
-
--- ---- what the code reads, in a state with these numbers and values
-module _ (s : State) (env hs ns : List ℕ) (count : ℕ) (h : Reads s env hs ns count) where
-  pub number_read : (x : NameIx) (a : ValNum) → a ≡ Option.get_or (env_of env x) (vn 0) → a ≡ number_of s x
-  unfolding number_of
-  number_read x a e = e ∙ ap (λ (f : NameIx → Option ValNum). Option.get_or (f x) (vn 0)) (sym h.0)
-
-  pub known_read : (k : Option Val) (a : ValNum) → k ≡ known_expr (vals_of hs ns count a) → k ≡ known s a
-  unfolding known
-  known_read k a e = e ∙ ap (λ (f : ValNum → Option (Expr ValNum)). known_expr (f a)) (sym h.1)
-
-pub home_read :
-    (s : State) (env homes : List ℕ) → s.env ≡ env_of env → s.locs ≡ locs_of homes →
-    (x : NameIx) → locs_of homes (Option.get_or (env_of env x) (vn 0)) ≡ home_of s x
-unfolding home_of number_of
-home_read s env homes d e x = λ i. sym e i (Option.get_or (sym d i x) (vn 0))
-
--- a state with these numbers and values
-abbrev pub reading : List ℕ → List ℕ → List ℕ → ℕ → State
-reading env hs ns count = record { env = env_of env; locs = λ v. nm 0; vals = vals_of hs ns count; next = 0; temps = 0 }
 
 -- ---- operators
 module _ (s : State) {r : Option (Expr ValNum)} where
@@ -157,16 +116,20 @@ module _ (i : Instruction) (ready : Ready i) (s : State) (t : NameIx → ℕ) wh
       let xs = two_args i ready o e in
       sym (ap (value_by s) (instr_form i ready t (ops.Two o) e) ∙ (λ j. make_val s (two o (xs.0 j) (xs.1 j))))
 
-  none_of : (o : Op) (j : Instr) → OneOf (3 ∷ 4 ∷ 5 ∷ 6 ∷ 7 ∷ 8 ∷ []) (tag_of Ops.the_type o) → none ≡ value_by s (form_as o t j)
-  none_of ops.Const j h = absurd (miss (3 ∷ 4 ∷ 5 ∷ 6 ∷ 7 ∷ 8 ∷ []) 0 tt h)
-  none_of (ops.One o) j h = absurd (miss (3 ∷ 4 ∷ 5 ∷ 6 ∷ 7 ∷ 8 ∷ []) 1 tt h)
-  none_of (ops.Two o) j h = absurd (miss (3 ∷ 4 ∷ 5 ∷ 6 ∷ 7 ∷ 8 ∷ []) 2 tt h)
-  none_of (ops.New c) j h = refl
-  none_of (ops.Effect c) j h = refl
-  none_of ops.Nop j h = refl
-  none_of ops.Jmp j h = refl
-  none_of ops.Br j h = refl
-  none_of ops.Ret j h = refl
+  none_of :
+      (o : Op) (j : Instr) → (o ≡ ops.Const → ⊥) → ((p : One) → o ≡ ops.One p → ⊥) → ((p : Two) → o ≡ ops.Two p → ⊥) →
+      none ≡ value_by s (form_as o t j)
+  none_of ops.Const j a b c = absurd (a refl)
+  none_of (ops.One o) j a b c = absurd (b o refl)
+  none_of (ops.Two o) j a b c = absurd (c o refl)
+  none_of (ops.New o) j a b c = refl
+  none_of (ops.Effect o) j a b c = refl
+  none_of ops.Nop j a b c = refl
+  none_of ops.Jmp j a b c = refl
+  none_of ops.Br j a b c = refl
+  none_of ops.Ret j a b c = refl
 
-  pub new_arm : OneOf (3 ∷ 4 ∷ 5 ∷ 6 ∷ 7 ∷ 8 ∷ []) (tag_of Ops.the_type i.op) → none ≡ value_by s (form t (instr_of i))
-  new_arm h = none_of i.op (instr_of i) h ∙ sym (ap (value_by s) (instr_form i ready t i.op refl))
+  pub new_arm :
+      (i.op ≡ ops.Const → ⊥) → ((p : One) → i.op ≡ ops.One p → ⊥) → ((p : Two) → i.op ≡ ops.Two p → ⊥) →
+      none ≡ value_by s (form t (instr_of i))
+  new_arm a b c = none_of i.op (instr_of i) a b c ∙ sym (ap (value_by s) (instr_form i ready t i.op refl))

@@ -1,5 +1,5 @@
 -- What the code of one instruction speaks of: instructions by their operation, and its answers as those of the definitions.
-use Rattle.std.specs.Prelude.{ℕ, ◌+◌, ◌<◌, ◌≤◌, ◌≡◌, Bool, true, false, cond, List, length}
+use Rattle.std.specs.Prelude.{ℕ, ◌+◌, ◌<◌, ◌≤◌, ◌≡◌, Bool, true, false, cond}
 use Rattle.std.proofs.Math.Option.{Option, none, some}
 use Rattle.arith.specs.Value.{Val}
 use Rattle.arith.specs.Operation.{Expr}
@@ -17,10 +17,9 @@ use Rattle.numbering.specs.Number.{reads, make_val, make_id_instr, val_to_instr,
 use Rattle.numbering.specs.View.{expr_of}
 use Rattle.numbering.proofs.Simplified.{MaybeOk}
 use Rattle.codes.specs.Op.{op_of}
-use Rattle.lvn_values.specs.Table.{vals_of}
 use Rattle.lvn_state.specs.declared.LvnState.{LvnState}
-use Rattle.lvn_state.specs.View.{env_of, state_of, saves_of}
-use Rattle.lvn_state.specs.Room.{Low, Tables}
+use Rattle.lvn_state.specs.View.{state_of, saves_of}
+use Rattle.lvn_state.specs.Room.{Low}
 use Rattle.lvn_instr.specs.declared.Emitted.{Emitted}
 
 -- ---- what is asked of an instruction
@@ -46,21 +45,16 @@ value_by s nop = none
 value_by s (jump b) = none
 value_by s (branch a b c) = none
 
--- whether a state has the numbers of these names and the values of this table
-abbrev pub Reads : State → List ℕ → List ℕ → List ℕ → ℕ → Type 0
-Reads s env hs ns count = (s.env ≡ env_of env) × (s.vals ≡ vals_of hs ns count)
-
 -- no constant is refused
 abbrev pub Any : Val → Type 0
 Any v = Unit {0}
 
 -- what is asked where i, whose value is v, is placed: that dest, the next number and the next made name have room
-pub record Placeable (env homes : List ℕ) (st : LvnState) (hs ns : List ℕ) (n : ℕ) (i : Instruction) (v : Value) : Type 0 where
+pub record Placeable (st : LvnState) (n : ℕ) (i : Instruction) (v : Value) : Type 0 where
   pub few : i.count ≤ 8
-  pub dest : i.dest.0 < length env
-  pub number : st.count < length homes
+  pub dest : i.dest.0 < 256
+  pub number : st.values.count < 512
   pub made : n + st.made < 65535
-  pub tables : Tables env homes hs ns
   pub operand : MaybeOk Any 65535 (expr_of v)
 
 -- ---- what is written
@@ -89,11 +83,5 @@ has_dest Ret = false
 abbrev pub by_op : ℕ → State → Instr → Op → Option (Expr ValNum) → EmittedAs
 by_op N s i o e = cond (has_dest o) (place N s i e) (unchanged s i)
 
--- env, homes: the maps beside the state; hs, ns: the heads and constants of the table
-abbrev pub emitted_of : List ℕ → List ℕ → Emitted → List ℕ → List ℕ → EmittedAs
-emitted_of env homes r hs ns =
-    record {
-      state = state_of env homes r.state hs ns;
-      saves = saves_of r.made (instr_of r.instr);
-      instr = instr_of r.instr;
-    }
+abbrev pub emitted_of : LvnState → Emitted → EmittedAs
+emitted_of st r = record { state = state_of st; saves = saves_of r.made (instr_of r.instr); instr = instr_of r.instr }

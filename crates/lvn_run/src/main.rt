@@ -23,13 +23,10 @@ pub fn run<R: Read, W: Write>(
 {
     let mut head = [0u8; 41];
     let n = read_input::read_full(reader, input)?;
-    let parts = engine_report::program(input, n, events, left, &mut head);
-    let h = parts.head;
-    let e = parts.events;
-    let l = parts.left;
-    writer.write_all(&head[..h])?;
-    writer.write_all(&events[..e])?;
-    writer.write_all(&left[..l])
+    let parts = engine_report::program(&input[..n], events, left, &mut head);
+    writer.write_all(&head[..parts.head])?;
+    writer.write_all(&events[..parts.events])?;
+    writer.write_all(&left[..parts.left])
 }
 
 fn main(rt: HostRuntime) -> io::Result<()> {

@@ -1,14 +1,13 @@
 -- The state at a block's start: nothing is numbered, then one argument after another.
-use Prim.Native.Nat.{ℕ, zero, suc, ◌+◌, ◌<◌}
+use Prim.Native.Nat.{ℕ, zero, suc}
 use mathlib.Core.Path.{◌≡◌, refl, sym, ap, ◌∙◌, fun_ext}
 use mathlib.Core.Logic.{◌≢◌}
 use mathlib.Core.Bool.{Bool, true, false, cond}
 use mathlib.Core.List.{List}
 use mathlib.Core.Option.{Option, none, some}
-use native.Mathlib.Numerals.{add-one}
 use native.Mathlib.Omega.{arith}
 use lib.Dec.{ltb}
-use lib.ListN.{length, get_or, set, replicate}
+use lib.ListN.{get_or, replicate}
 use borrow.Author.Tests.{lt-ltb, le-ltb, ltb-true, ltb-false}
 use Rattle.arith.specs.Map.{upd}
 use Rattle.arith.specs.Operation.{Expr}
@@ -16,11 +15,9 @@ use Rattle.arith.proofs.Map.{upd_same, upd_other}
 use Rattle.record.specs.declared.NameIx.{NameIx}
 use Rattle.record.specs.Record.{nm, NameIx-discrete}
 use Rattle.numbering.specs.declared.ValNum.{ValNum}
-use Rattle.numbering.specs.State.{vn, State, ValNum-discrete, nobody, start_env, start, new_number}
+use Rattle.numbering.specs.State.{vn, ValNum-discrete, nobody, start_env, start, new_number}
 use Rattle.lvn_values.proofs.Search.{vals_past}
-use Rattle.lvn_state.specs.Room.{Clear}
-use Rattle.lvn_state.specs.View.{slot, env_of, locs_of, state_of}
-use Rattle.lvn_state.proofs.Steps.{clear_view}
+use Rattle.lvn_state.specs.View.{slot, env_of, locs_of, state_with}
 
 same_all : (n i a : ℕ) → get_or (replicate n a) i a ≡ a
 same_all zero i a = refl
@@ -30,20 +27,18 @@ same_all (suc n) (suc i) a = same_all n i a
 none_below : {X : Type 0} (x : ℕ) (a b : X) → b ≡ cond (ltb x 0) a b
 none_below x a b = rw (le-ltb x 0 (omega arith))
 
-module _ (env homes hs ns : List ℕ) (k : ℕ) where
-  pub none_numbered :
-      Clear env → Clear homes →
-      state_of env homes (record { count = 0; made = k }) hs ns ≡ start 0 k
+-- nothing stands in the maps
+module _ (m n : ℕ) (hs ns : List ℕ) (k : ℕ) where
+  pub none_numbered : state_with (replicate m 65535) (replicate n 65535) hs ns 0 k ≡ start 0 k
   unfolding start env_of locs_of
-  none_numbered e h =
-      (λ i. state_of (e i) (h i) (record { count = 0; made = k }) hs ns) ∙
-      (λ i. record {
-        env = fun_ext (λ x. ap slot (same_all (length env) x.0 65535) ∙ none_below x.0 (some (vn x.0)) none) i;
-        locs = fun_ext (λ v. ap nm (same_all (length homes) v.0 65535) ∙ none_below v.0 (nm v.0) nobody) i;
+  none_numbered =
+      λ i. record {
+        env = fun_ext (λ x. ap slot (same_all m x.0 65535) ∙ none_below x.0 (some (vn x.0)) none) i;
+        locs = fun_ext (λ v. ap nm (same_all n v.0 65535) ∙ none_below v.0 (nm v.0) nobody) i;
         vals = fun_ext (λ v. vals_past hs ns 0 v (omega arith)) i;
         next = 0;
         temps = k;
-      })
+      }
 
 -- one more is below i + 1 than below i
 others_below : {X : Type 0} (i x : ℕ) (a b : X) → x ≢ i → cond (ltb x i) a b ≡ cond (ltb x (suc i)) a b
@@ -95,13 +90,3 @@ module _ (i k : ℕ) where
         next = suc i;
         temps = k;
       }
-
--- one more argument in the arrays
-module _ (env homes hs ns : List ℕ) (i k : ℕ) where
-  pub argument :
-      i < length env → i < length homes → i < length hs → i < 65535 →
-      state_of env homes (record { count = i; made = k }) hs ns ≡ start i k →
-      state_of (set env i i) (set homes i i) (record { count = i + 1; made = k }) (set hs i 0) ns ≡ start (i + 1) k
-  argument le lo lh b e =
-      clear_view env homes (record { count = i; made = k }) hs ns (nm i) le lo (λ q. omega arith) lh ∙
-      ap (λ (s : State). new_number s (nm i) none) e ∙ start_more i k ∙ ap (λ (n : ℕ). start n k) (sym (add-one i))

@@ -4,7 +4,6 @@ use mathlib.Core.Path.{◌≡◌, refl, sym, ap, ◌∙◌, subst}
 use mathlib.Core.List.{List, [], ◌∷◌}
 use mathlib.Core.Option.{Option, none, some}
 use native.Mathlib.Omega.{arith}
-use lib.ListN.{length}
 use borrow.Author.Tests.{le-ltb}
 use Rattle.arith.specs.Map.{upd}
 use Rattle.arith.specs.Operation.{Expr}
@@ -30,37 +29,12 @@ use Rattle.numbering.specs.Number.{
 }
 use Rattle.numbering.proofs.Overwritten.{Overwritten, kept, moved, overwritten}
 use Rattle.numbering.proofs.Saves.{gen_new_vals_temps}
-use Rattle.lvn_state.specs.declared.LvnState.{LvnState}
-use Rattle.lvn_state.specs.View.{state_of}
-use Rattle.lvn_state.specs.Room.{Low, free, room, Maps, Tables}
+use Rattle.lvn_state.specs.Room.{Low, free, room}
 use Rattle.lvn_state.proofs.Arguments.{start_more}
 
 pub next_room : (m : ℕ) (s : State) → s.next ≤ room m s
 unfolding room
 next_room m s = omega arith
-
--- maps and tables that keep their lengths keep their places
-pub maps_kept :
-    {env homes env' homes' : List ℕ} → length env' ≡ length env → length homes' ≡ length homes → Maps env homes → Maps env' homes'
-maps_kept e h m =
-    record { names = subst (λ n. n ≤ 65535) (sym e) m.names; numbers = subst (λ n. n ≤ 65535) (sym h) m.numbers }
-
-pub tables_kept :
-    {env homes hs ns env' homes' hs' ns' : List ℕ} →
-    length env' ≡ length env → length homes' ≡ length homes → length hs' ≡ length hs → length ns' ≡ length ns →
-    Tables env homes hs ns →
-    Tables env' homes' hs' ns'
-tables_kept e h a b t =
-    let k = t.heads in
-    let l = t.nums in
-    record { maps = maps_kept e h t.maps; heads = omega (arith, h, a, k); nums = omega (arith, h, b, l) }
-
--- the table takes no part
-pub room_of :
-    (m : ℕ) (env homes : List ℕ) (s : LvnState) (hs ns ks ms : List ℕ) →
-    room m (state_of env homes s hs ns) ≡ room m (state_of env homes s ks ms)
-unfolding room
-room_of m env homes s hs ns ks ms = refl
 
 module _ (f : NameIx → Option ValNum) (x : NameIx) (v : ValNum) where
   above : (m : ℕ) → m ≤ x.0 → free m (upd NameIx-discrete f x (some v)) ≡ free m f

@@ -5,12 +5,12 @@ use mathlib.Core.Logic.{◌≢◌}
 use mathlib.Core.Bool.{true, false}
 use mathlib.Core.List.{List}
 use mathlib.Core.Option.{Option, none, some}
+use Rattle.std.specs.Prelude.{Option as Maybe, None, Some}
 use native.Mathlib.Decide.{ℕ_discrete}
 use native.Mathlib.Numerals.{add-one}
 use native.Mathlib.Omega.{arith}
-use lib.Dec.{eqb}
 use lib.ListN.{length, get_or, set}
-use borrow.Author.Tests.{eqb-true, eqb-false, ne_eqb}
+use borrow.Author.Tests.{eqb-true, eqb-false}
 use Rattle.arith.proofs.Clash.{clash}
 use Rattle.arith.specs.declared.One.TheVariants.{Not, Id}
 use Rattle.arith.specs.Operation.{Expr, constant, one, two}
@@ -21,9 +21,7 @@ use Rattle.numbering.specs.declared.ValNum.{ValNum}
 use Rattle.numbering.specs.State.{vn, State, rehome}
 use Rattle.numbering.specs.Number.{no_save, save, save_at, handle_overwrite}
 use Rattle.lvn_values.specs.Table.{vals_of}
-use Rattle.lvn_state.specs.declared.LvnState.{LvnState}
-use Rattle.lvn_state.specs.declared.Saved.{Saved}
-use Rattle.lvn_state.specs.View.{env_of, locs_of, state_of, saved_of, itself}
+use Rattle.lvn_state.specs.View.{env_of, locs_of, state_with, saves_of, itself}
 use Rattle.lvn_state.proofs.Views.{env_none, env_some, locs_in, locs_past, locs_set}
 
 -- ---- "unless that reads exactly `x = id x`"
@@ -64,36 +62,33 @@ module _ (N : ℕ) (s : State) (i : Instr) where
     save_away h = ap (save_at N s i) e ∙ pick_no (NameIx-discrete (s.locs v) i.dest) (save N s i v) (no_save s) h
 
 -- ---- the code's cases
-module _ (env homes : List ℕ) (s : LvnState) (n : ℕ) (x : NameIx) (hx : x.0 < length env) (e : Option (Expr ValNum)) where
-  -- what a call leaves is the definition's, for every table and every instruction that writes x
-  abbrev pub Overwritten : List ℕ → Saved → Type 0
-  Overwritten homes' r =
-      (hs ns : List ℕ) (i : Instr) → i.dest ≡ x →
-      saved_of env homes' r hs ns i ≡ handle_overwrite n (state_of env homes s hs ns) i e
+module _ (env homes hs ns : List ℕ) (count made n : ℕ) (x : NameIx) (hx : x.0 < length env) (e : Option (Expr ValNum)) where
+  abbrev before : State
+  before = state_with env homes hs ns count made
+
+  -- what a call leaves is the definition's, for every instruction that writes x
+  abbrev Overwritten : State → Maybe NameIx → Type 0
+  Overwritten t m = (i : Instr) → i.dest ≡ x → record { state = t; saves = saves_of m i } ≡ handle_overwrite n before i e
 
   abbrev pub Stays : Type 0
-  Stays = Overwritten homes (record { state = s; made = nm 65535 })
+  Stays = Overwritten before None
 
   pub kept_itself : itself (locs_of homes) x e ≡ true → Stays
-  kept_itself t hs ns i q =
-      sym (overwrite_itself n (state_of env homes s hs ns) i e (ap (λ (y : NameIx). itself (locs_of homes) y e) q ∙ t))
+  kept_itself t i q = sym (overwrite_itself n before i e (ap (λ (y : NameIx). itself (locs_of homes) y e) q ∙ t))
 
   module _ (t : itself (locs_of homes) x e ≡ false) where
-    other : (hs ns : List ℕ) (i : Instr) → i.dest ≡ x →
-        handle_overwrite n (state_of env homes s hs ns) i e ≡ save_at n (state_of env homes s hs ns) i (env_of env i.dest)
-    other hs ns i q = overwrite_other n (state_of env homes s hs ns) i e (ap (λ (y : NameIx). itself (locs_of homes) y e) q ∙ t)
+    other : (i : Instr) → i.dest ≡ x → handle_overwrite n before i e ≡ save_at n before i (env_of env i.dest)
+    other i q = overwrite_other n before i e (ap (λ (y : NameIx). itself (locs_of homes) y e) q ∙ t)
 
     away : (v : ValNum) → env_of env x ≡ some v → locs_of homes v ≢ x → Stays
-    away v p h hs ns i q =
-        sym (other hs ns i q ∙ save_away n (state_of env homes s hs ns) i v (ap (env_of env) q ∙ p) (λ r. h (r ∙ q)))
+    away v p h i q = sym (other i q ∙ save_away n before i v (ap (env_of env) q ∙ p) (λ r. h (r ∙ q)))
 
     -- no number, or one past the end, whose home is nobody
     pub kept_past : length homes ≤ get_or env x.0 0 → x.0 < 65535 → Stays
     kept_past l b = by (ℕ_discrete (get_or env x.0 0) 65535)
       where
         by : Dec (get_or env x.0 0 ≡ 65535) → Stays
-        by (yes p) =
-            λ hs ns i q. sym (other hs ns i q ∙ save_none n (state_of env homes s hs ns) i (ap (env_of env) q ∙ env_none env x hx p))
+        by (yes p) = λ i q. sym (other i q ∙ save_none n before i (ap (env_of env) q ∙ env_none env x hx p))
         by (no p) =
             away (vn (get_or env x.0 0)) (env_some env x hx (get_or env x.0 0) refl p)
             (λ r.
@@ -112,34 +107,24 @@ module _ (env homes : List ℕ) (s : LvnState) (n : ℕ) (x : NameIx) (hx : x.0 
       kept_away h = away (vn (get_or env x.0 0)) number (λ r. h (ap (λ (y : NameIx). y.0) (sym home ∙ r)))
 
       -- the made name becomes the home
-      abbrev moved : List ℕ
-      moved = set homes (get_or env x.0 0) (n + s.made)
+      abbrev moved : State
+      moved = state_with env (set homes (get_or env x.0 0) (n + made)) hs ns count (made + 1)
 
-      abbrev raised : LvnState
-      raised = record { count = s.count; made = s.made + 1 }
-
-      rehomed :
-          (hs ns : List ℕ) →
-          state_of env moved raised hs ns ≡ rehome (state_of env homes s hs ns) (vn (get_or env x.0 0)) (nm (n + s.made))
+      rehomed : moved ≡ rehome before (vn (get_or env x.0 0)) (nm (n + made))
       unfolding rehome
-      rehomed hs ns =
+      rehomed =
           λ j. record {
             env = env_of env;
-            locs = locs_set homes (vn (get_or env x.0 0)) (nm (n + s.made)) (omega arith) j;
-            vals = vals_of hs ns s.count;
-            next = s.count;
-            temps = add-one s.made j;
+            locs = locs_set homes (vn (get_or env x.0 0)) (nm (n + made)) (omega arith) j;
+            vals = vals_of hs ns count;
+            next = count;
+            temps = add-one made j;
           }
 
-      pub save_made :
-          get_or homes (get_or env x.0 0) 0 ≡ x.0 → n + s.made < 65535 →
-          Overwritten moved (record { state = raised; made = nm (n + s.made) })
+      pub save_made : get_or homes (get_or env x.0 0) 0 ≡ x.0 → Overwritten moved (Some (nm (n + made)))
       unfolding save
-      save_made h b hs ns i q =
+      save_made h i q =
           let v = vn (get_or env x.0 0) in
           let at : locs_of homes v ≡ i.dest = home ∙ (λ j. nm (h j)) ∙ sym q in
-          let owed : eqb (n + s.made) 65535 ≡ false = ne_eqb (n + s.made) 65535 (λ p. omega arith) in
-          let saved :
-          saved_of env moved (record { state = raised; made = nm (n + s.made) }) hs ns i ≡ save n (state_of env homes s hs ns) i v =
-          rw owed (ap (λ (t : State). record { state = t; saves = (save n (state_of env homes s hs ns) i v).saves }) (rehomed hs ns)) in
-          saved ∙ sym (other hs ns i q ∙ save_home n (state_of env homes s hs ns) i v (ap (env_of env) q ∙ number) at)
+          ap (λ (t : State). record { state = t; saves = (save n before i v).saves }) rehomed ∙
+          sym (other i q ∙ save_home n before i v (ap (env_of env) q ∙ number) at)

@@ -1,52 +1,58 @@
 -- The arguments of an instruction seen one after another, as a loop over them has it.
-use Prim.Native.Nat.{ℕ, suc, ◌+◌, ◌-◌, ◌<◌, ◌≤◌}
+use Prim.Native.Nat.{ℕ, suc, ◌+◌, ◌<◌, ◌≤◌}
 use mathlib.Core.Path.{◌≡◌, refl, sym, ap, ◌∙◌, subst}
 use mathlib.Core.List.{List, [], ◌∷◌, ◌++◌, map}
 use native.Mathlib.Omega.{arith}
 use native.Mathlib.Numerals.{add-one}
-use lib.ListN.{length, get_or, set, take, drop}
+use lib.ListN.{length, get_or, set, take, drop, drop_of_length-le}
 use lib.Seq.{drop-cons, take-suc, take-suc-set}
 use Rattle.record.specs.declared.NameIx.{NameIx}
 use Rattle.record.specs.Record.{nm}
 use Rattle.numbering.specs.State.{State, see, gen_new_vals}
-use Rattle.lvn_state.specs.declared.LvnState.{LvnState}
-use Rattle.lvn_state.specs.View.{state_of, names_in}
+use Rattle.lvn_state.specs.View.{names_in}
 use Rattle.lvn_state.specs.Room.{Low, room}
-use Rattle.lvn_state.proofs.Room.{see_room, room_of}
+use Rattle.lvn_state.proofs.Room.{next_room, see_room}
 
-left_step : (n i : ℕ) → i < n → n - i ≡ suc (n - (i + 1))
-left_step n i h = omega arith
+module _ (l : List ℕ) (i : ℕ) (h : i < length l) where
+  -- the arguments from i on
+  rest_step : map nm (drop i l) ≡ nm (get_or l i 0) ∷ map nm (drop (i + 1) l)
+  rest_step = let d : drop i l ≡ get_or l i 0 ∷ drop (suc i) l = drop-cons l i 0 h in rw (d, add-one i)
 
--- the arguments from i on
-abbrev pub rest : List ℕ → ℕ → ℕ → List NameIx
-rest l n i = names_in (n - i) (drop i l)
+  pub low_first : (m : ℕ) → Low m (map nm (drop i l)) → get_or l i 0 < m
+  low_first m a = let p : Low m (nm (get_or l i 0) ∷ map nm (drop (i + 1) l)) = subst (Low m) rest_step a in p.0
 
-module _ (l : List ℕ) (n i : ℕ) (h : i < n) (k : n ≤ length l) where
-  rest_step : rest l n i ≡ nm (get_or l i 0) ∷ rest l n (i + 1)
-  rest_step = let d : drop i l ≡ get_or l i 0 ∷ drop (suc i) l = drop-cons l i 0 (omega arith) in rw (left_step n i h, d, add-one i)
+  pub low_rest : (m : ℕ) → Low m (map nm (drop i l)) → Low m (map nm (drop (i + 1) l))
+  low_rest m a = let p : Low m (nm (get_or l i 0) ∷ map nm (drop (i + 1) l)) = subst (Low m) rest_step a in p.1
 
-  pub low_first : (m : ℕ) → Low m (rest l n i) → get_or l i 0 < m
-  low_first m a = let p : Low m (nm (get_or l i 0) ∷ rest l n (i + 1)) = subst (Low m) rest_step a in p.0
-
-  pub low_rest : (m : ℕ) → Low m (rest l n i) → Low m (rest l n (i + 1))
-  low_rest m a = let p : Low m (nm (get_or l i 0) ∷ rest l n (i + 1)) = subst (Low m) rest_step a in p.1
-
-  pub seen_first : (s : State) → gen_new_vals (see s (nm (get_or l i 0))) (rest l n (i + 1)) ≡ gen_new_vals s (rest l n i)
+  pub seen_first : (s : State) → gen_new_vals (see s (nm (get_or l i 0))) (map nm (drop (i + 1) l)) ≡ gen_new_vals s (map nm (drop i l))
   unfolding gen_new_vals
   seen_first s = sym (ap (gen_new_vals s) rest_step)
 
-pub seen_all : (s : State) (l : List ℕ) (n i : ℕ) → n ≤ i → gen_new_vals s (rest l n i) ≡ s
+pub seen_all : (s : State) (l : List ℕ) (i : ℕ) → length l ≤ i → gen_new_vals s (map nm (drop i l)) ≡ s
 unfolding gen_new_vals
-seen_all s l n i h = let z : n - i ≡ 0 = omega arith in rw z
+seen_all s l i h = let z : drop i l ≡ [] = drop_of_length-le l h in rw z
 
--- the room of a state that has seen x
-module _ (env homes env' homes' : List ℕ) (s t : LvnState) (hs ks : List ℕ) (x : NameIx) where
-  pub seen_room :
-      (m : ℕ) → x.0 < m → state_of env' homes' t ks [] ≡ see (state_of env homes s hs []) x →
-      room m (state_of env' homes' t [] []) ≡ room m (state_of env homes s [] [])
-  seen_room m h e =
-      room_of m env' homes' t [] [] ks [] ∙ ap (room m) e ∙ see_room m (state_of env homes s hs []) x h ∙
-      room_of m env homes s hs [] [] []
+-- ---- the loop over the arguments l, whose rest from i on is seen in the state s
+pub record Seeing (s₀ : State) (l : List ℕ) (s : State) (i : ℕ) : Type 0 where
+  pub low : Low 256 (map nm (drop i l))
+  pub fits : room 256 s < 512
+  pub seen : gen_new_vals s (map nm (drop i l)) ≡ gen_new_vals s₀ (map nm l)
+
+module _ {s₀ : State} {l : List ℕ} {s : State} {i : ℕ} (a : Seeing s₀ l s i) (h : i < length l) where
+  pub name_low : get_or l i 0 < 256
+  name_low = low_first l i h 256 a.low
+
+  pub next_low : s.next < 512
+  next_low = omega (arith, next_room 256 s, a.fits)
+
+  pub seeing_more : (t : State) → t ≡ see s (nm (get_or l i 0)) → Seeing s₀ l t (i + 1)
+  seeing_more t e =
+      let r : room 256 t ≡ room 256 s = ap (room 256) e ∙ see_room 256 s (nm (get_or l i 0)) name_low in
+      record {
+        low = low_rest l i h 256 a.low;
+        fits = omega (arith, r, a.fits);
+        seen = ap (λ (u : State). gen_new_vals u (map nm (drop (i + 1) l))) e ∙ seen_first l i h s ∙ a.seen;
+      }
 
 -- ---- arguments replaced
 map_last : {X Y : Type 0} (f : X → Y) (l : List X) (x : X) → map f (l ++ (x ∷ [])) ≡ map f l ++ (f x ∷ [])

@@ -1,5 +1,5 @@
--- The numbers that a block can still need: the next number, and one for each name that has none. And the room that the tables have.
-use Rattle.std.specs.Prelude.{ℕ, zero, suc, ◌+◌, ◌<◌, ◌≤◌, ◌≡◌, List, [], ◌∷◌, length, replicate}
+-- The numbers that a block can still need: the next number, and one for each name that has none.
+use Rattle.std.specs.Prelude.{ℕ, zero, suc, ◌+◌, ◌<◌, List, [], ◌∷◌}
 use Rattle.std.proofs.Math.Option.{Option, none, some}
 use Rattle.record.specs.declared.NameIx.{NameIx}
 use Rattle.record.specs.Record.{nm}
@@ -23,18 +23,3 @@ free (suc m) f = gap (f (nm m)) + free m f
 -- with m names
 unfoldable pub room : ℕ → State → ℕ
 room m s = s.next + free m s.env
-
--- nothing stands in a map
-abbrev pub Clear : List ℕ → Type 0
-Clear l = l ≡ replicate (length l) 65535
-
--- 65535, which stands for none, is past the end of both maps: the numbers of names and the homes of numbers
-pub record Maps (env homes : List ℕ) : Type 0 where
-  pub names : length env ≤ 65535
-  pub numbers : length homes ≤ 65535
-
--- the table of values has room for every number that can have a home
-pub record Tables (env homes hs ns : List ℕ) : Type 0 where
-  pub maps : Maps env homes
-  pub heads : length homes ≤ length hs
-  pub nums : length homes ≤ length ns

@@ -1,5 +1,5 @@
--- The numbering state of the code, with the maps and the table that are lent beside it, as the state of the definitions.
-use Rattle.std.specs.Prelude.{ℕ, Bool, false, cond, List, [], ◌∷◌, map, eqb, get_or, take}
+-- The numbering state of the code as the state of the definitions.
+use Rattle.std.specs.Prelude.{ℕ, Bool, false, cond, List, [], ◌∷◌, map, eqb, get_or, take, Option as Maybe, None, Some}
 use Rattle.std.proofs.Math.Option.{Option, none, some}
 use Rattle.arith.specs.declared.One.TheVariants.{Not, Id}
 use Rattle.arith.specs.Operation.{Expr, constant, one, two}
@@ -10,7 +10,6 @@ use Rattle.numbering.specs.State.{vn, State, new_number, update_env}
 use Rattle.numbering.specs.Number.{Saved as SavedAs, save_before, get_val_num}
 use Rattle.lvn_values.specs.Table.{vals_of}
 use Rattle.lvn_state.specs.declared.LvnState.{LvnState}
-use Rattle.lvn_state.specs.declared.Saved.{Saved}
 
 -- 65535 stands for no number
 abbrev pub slot : ℕ → Option ValNum
@@ -23,27 +22,31 @@ env_of l x = slot (get_or l x.0 65535)
 unfoldable pub locs_of : List ℕ → ValNum → NameIx
 locs_of l v = nm (get_or l v.0 65535)
 
--- env, homes: the maps; hs, ns: the heads and constants of the table
-abbrev pub state_of : List ℕ → List ℕ → LvnState → List ℕ → List ℕ → State
-state_of env homes s hs ns =
+-- env, homes: the maps; hs, ns: the heads and constants of the table; count: the next number; made: K
+abbrev pub state_with : List ℕ → List ℕ → List ℕ → List ℕ → ℕ → ℕ → State
+state_with env homes hs ns count made =
     record {
       env = env_of env;
       locs = locs_of homes;
-      vals = vals_of hs ns s.count;
-      next = s.count;
-      temps = s.made;
+      vals = vals_of hs ns count;
+      next = count;
+      temps = made;
     }
+
+abbrev pub state_of : LvnState → State
+state_of s = state_with s.env s.homes s.values.heads s.values.nums s.values.count s.made
 
 -- the first n of an instruction's arguments
 abbrev pub names_in : ℕ → List ℕ → List NameIx
 names_in n l = map nm (take n l)
 
--- the save that is owed before i; 65535 stands for none
-abbrev pub saves_of : NameIx → Instr → List Instr
-saves_of made i = cond (eqb made.0 65535) [] (save_before i made ∷ [])
+-- the save that is owed before i, where one is, by its made name
+abbrev pub saves_of : Maybe NameIx → Instr → List Instr
+saves_of None i = []
+saves_of (Some made) i = save_before i made ∷ []
 
-abbrev pub saved_of : List ℕ → List ℕ → Saved → List ℕ → List ℕ → Instr → SavedAs
-saved_of env homes r hs ns i = record { state = state_of env homes r.state hs ns; saves = saves_of r.made i }
+abbrev pub saved_of : LvnState → Maybe NameIx → Instr → SavedAs
+saved_of s made i = record { state = state_of s; saves = saves_of made i }
 
 -- whether a value's instruction reads exactly `x = id x`
 unfoldable pub itself : (ValNum → NameIx) → NameIx → Option (Expr ValNum) → Bool

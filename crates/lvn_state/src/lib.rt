@@ -1,271 +1,205 @@
-// The state of the numbering of a block, by value, with the methods that see an argument, give and take a number, and save a home, each
-// handing it back. Its two maps, the numbers of names and the homes of numbers, are lent beside it, and so is the table of numbered values.
+// The state of the numbering of a block: the numbers of names, the homes of numbers, the table of numbered values and K, with the methods
+// that see an argument, give and take a number, and save a home.
 #![tactic(auto)]
 
-ghost use Rattle.std.specs.Prelude.{◌≡◌, ◌≢◌, List, [], ℕ, ◌+◌, ◌<◌, ◌≤◌, length};
-ghost use Rattle.std.proofs.Math.Option.{some, get_or};
+ghost use Rattle.std.specs.Prelude.{◌≡◌, ◌≢◌, ◌+◌, ◌<◌, ◌≤◌, map, IfSome};
+ghost use Rattle.std.proofs.Math.Option.{some};
 ghost use Rattle.arith.specs.declared.One.TheVariants.{Id};
 ghost use Rattle.arith.specs.Operation.{one};
-ghost use Rattle.record.specs.Record.{Instr};
+ghost use Rattle.record.specs.Record.{nm, Instr};
 ghost use Rattle.numbering.specs.declared.ValNum.{ValNum};
-ghost use Rattle.numbering.specs.State.{vn, start, new_number, update_env, see, gen_new_vals};
+ghost use Rattle.numbering.specs.State.{start, new_number, update_env, see, gen_new_vals, number_of, known};
 ghost use Rattle.numbering.specs.Number.{handle_overwrite};
 ghost use Rattle.numbering.specs.View.{expr_of};
+ghost use Rattle.lvn_simplify.specs.View.{known_of};
 ghost use Rattle.lvn_values.specs.Table.{numbered_of, val_num_of};
-ghost use Rattle.lvn_state.specs.View.{env_of, locs_of, state_of, names_in, saved_of, itself, settled};
-ghost use Rattle.lvn_state.specs.Room.{Low, room, Clear, Maps, Tables};
+ghost use Rattle.lvn_state.specs.View.{state_of, saved_of, itself, settled};
+ghost use Rattle.lvn_state.specs.Room.{Low, room};
 
 use arith::One;
-use lvn_values::Numbered;
-use numbering::{ValNum, Value};
+use lvn_values::{NUMBERS, Values};
+use numbering::{Constant, ValNum, Value};
 use record::NameIx;
 
-// The next number, and K. The maps beside it: env has the number of each name, 65535 where it has none; homes has the home of each number,
-// 65535 where the number is not given.
-#[derive(Clone, Copy)]
+// So many names a record may have.
+pub const NAMES: usize = 256;
+
+// What the maps hold for a name that has no number, and for a number that is not given: a table of u16 is half as long as one of Options.
+const NONE: u16 = 65535;
+
+// env: the number of each name; homes: the home of each number; values: the value of each number; made: K.
+#[derive(Drop)]
 pub struct LvnState {
-    pub count: u16,
-    pub made: u16,
-}
-
-// A state, and the made name of the save that is owed before the instruction, 65535 where none is.
-#[derive(Clone, Copy)]
-pub struct Saved {
-    pub state: LvnState,
-    pub made: NameIx,
-}
-
-// A state, and the number that the value of an instruction had, where it had one.
-#[derive(Clone, Copy)]
-pub struct Settled {
-    pub state: LvnState,
-    pub number: Numbered,
-}
-
-// The state at a block's start, over maps in which nothing stands: the arguments have the first numbers and are their own homes; nothing is
-// known of them.
-pub fn start(env: &mut [u16], homes: &mut [u16], heads: &mut [u64], args: u16, k: u16) -> LvnState
-    requires { Clear env.old × (Clear homes.old ×
-        ((args ≤ length env.old) × ((args ≤ length homes.old) × (args ≤ length heads.old)))) }
-    ensures { (ns : List ℕ) → state_of env.new homes.new result heads.new ns ≡ start args k }
-{
-    let mut i: u16 = 0;
-    while i < args {
-        let at = i as usize;
-        env[at] = i;
-        homes[at] = i;
-        heads[at] = 0;
-        i += 1;
-    }
-    LvnState {
-        count: args,
-        made: k,
-    }
-}
-
-// The number of a name that has one.
-pub fn number_in(env: &[u16], x: NameIx) -> ValNum
-    ensures { result ≡ get_or (env_of env.now x) (vn 0) }
-{
-    let i = x.0 as usize;
-    if i >= env.len() {
-        return ValNum(0);
-    }
-    let v = env[i];
-    if v == 65535 {
-        return ValNum(0);
-    }
-    ValNum(v)
-}
-
-// The home of a number.
-pub fn home_in(homes: &[u16], v: ValNum) -> NameIx
-    ensures { result ≡ locs_of homes.now v }
-{
-    let i = v.0 as usize;
-    if i >= homes.len() {
-        return NameIx(65535);
-    }
-    NameIx(homes[i])
+    env: [u16; NAMES],
+    homes: [u16; NUMBERS],
+    values: Values,
+    made: u16,
 }
 
 impl LvnState {
-    // The next number: for x, whose home it is, with the value v.
-    pub fn give(
-        self,
-        env: &mut [u16],
-        homes: &mut [u16],
-        heads: &mut [u64],
-        nums: &mut [u64],
-        x: NameIx,
-        v: Value,
-    ) -> Self
-        requires { (x.0 < length env.old) × ((self.count < length homes.old) ×
-            Tables env.old homes.old heads.old nums.old) }
-        ensures { state_of env.new homes.new result heads.new nums.new ≡
-            new_number (state_of env.old homes.old self heads.old nums.old) x (expr_of v) }
+    // Before the first block's `restart`. All of it is zeros, so that it is made in its place by one fill, and not copied there.
+    pub fn new() -> Self
+        ensures { result.made ≡ 0 }
     {
-        let e = lvn_values::entry_of(v);
-        let i = x.0 as usize;
-        let k = self.count as usize;
-        heads[k] = e.head;
-        nums[k] = e.num;
-        homes[k] = x.0;
-        env[i] = self.count;
         LvnState {
-            count: self.count + 1,
-            made: self.made,
+            env: [0; NAMES],
+            homes: [0; NUMBERS],
+            values: Values::new(),
+            made: 0,
         }
+    }
+
+    // At a block's start: the arguments have the first numbers and are their own homes; nothing is known of them.
+    pub fn restart(&mut self, args: u16, k: u16)
+        requires { args ≤ 256 }
+        ensures { state_of self.new ≡ start args k }
+    {
+        self.env = [NONE; NAMES];
+        self.homes = [NONE; NUMBERS];
+        self.values.clear();
+        self.made = k;
+        for i in 0..args {
+            self.give(NameIx(i), Value::Unique);
+        }
+    }
+
+    // K, how many names are made.
+    pub fn made(&self) -> u16
+        ensures { result ≡ self.now.made }
+    {
+        self.made
+    }
+
+    // The number of a name, where it has one.
+    pub fn number(&self, x: NameIx) -> Option<ValNum>
+        ensures { (numbered_of result ≡ (state_of self.now).env x) × IfSome result (λ v. v.0 < 65535) }
+    {
+        let i = x.0 as usize;
+        if i >= NAMES || self.env[i] == NONE {
+            return None;
+        }
+        Some(ValNum(self.env[i]))
+    }
+
+    // The number of a name that has one.
+    pub fn number_of(&self, x: NameIx) -> ValNum
+        ensures { (result ≡ number_of (state_of self.now) x) × (result.0 < 65535) }
+    {
+        self.number(x).unwrap_or(ValNum(0))
+    }
+
+    // The home of a number.
+    pub fn home(&self, v: ValNum) -> NameIx
+        ensures { result ≡ (state_of self.now).locs v }
+    {
+        let i = v.0 as usize;
+        if i >= NUMBERS {
+            return NameIx(NONE);
+        }
+        NameIx(self.homes[i])
+    }
+
+    // The constant of a number, where it is known.
+    pub fn known(&self, v: ValNum) -> Option<Constant>
+        ensures { known_of result ≡ known (state_of self.now) v }
+    {
+        self.values.known(v)
+    }
+
+    // The number of a value: an id's is its operand's, and one that is new each time has none.
+    pub fn get_val_num(&self, v: Value) -> Option<ValNum>
+        ensures { numbered_of result ≡ val_num_of (state_of self.now) (expr_of v) }
+    {
+        self.values.get_val_num(v)
+    }
+
+    // The next number: for x, whose home it is, with the value v.
+    pub fn give(&mut self, x: NameIx, v: Value)
+        requires { (x.0 < 256) × (self.old.values.count < 512) }
+        ensures { state_of self.new ≡ new_number (state_of self.old) x (expr_of v) }
+    {
+        let k = self.values.count();
+        self.values.push(v);
+        self.homes[k as usize] = x.0;
+        self.env[x.0 as usize] = k;
     }
 
     // x takes the number v.
-    pub fn update_env(self, env: &mut [u16], x: NameIx, v: ValNum) -> Self
-        requires { (x.0 < length env.old) × (v.0 ≢ 65535) }
-        ensures { (homes hs ns : List ℕ) →
-            state_of env.new homes result hs ns ≡ update_env (state_of env.old homes self hs ns) x v }
+    pub fn update_env(&mut self, x: NameIx, v: ValNum)
+        requires { (x.0 < 256) × (v.0 ≢ 65535) }
+        ensures { state_of self.new ≡ update_env (state_of self.old) x v }
     {
-        let i = x.0 as usize;
-        env[i] = v.0;
-        self
+        self.env[x.0 as usize] = v.0;
     }
 
     // An argument: where it has no number it gets the next one, of which nothing is known.
-    pub fn see(self, env: &mut [u16], homes: &mut [u16], heads: &mut [u64], x: NameIx) -> Self
-        requires { (x.0 < length env.old) × ((self.count < length homes.old) ×
-            (Maps env.old homes.old × (length homes.old ≤ length heads.old))) }
-        ensures { (ns : List ℕ) →
-            state_of env.new homes.new result heads.new ns ≡
-            see (state_of env.old homes.old self heads.old ns) x }
+    pub fn see(&mut self, x: NameIx)
+        requires { (x.0 < 256) × (self.old.values.count < 512) }
+        ensures { state_of self.new ≡ see (state_of self.old) x }
     {
-        let i = x.0 as usize;
-        if env[i] != 65535 {
-            return self;
-        }
-        let k = self.count as usize;
-        heads[k] = 0;
-        homes[k] = x.0;
-        env[i] = self.count;
-        LvnState {
-            count: self.count + 1,
-            made: self.made,
+        if self.number(x).is_none() {
+            self.give(x, Value::Unique);
         }
     }
 
-    // Numbers the first n arguments, left to right, where they have no number.
-    pub fn gen_new_vals(
-        self,
-        env: &mut [u16],
-        homes: &mut [u16],
-        heads: &mut [u64],
-        args: [u16; 8],
-        n: u8,
-    ) -> Self
-        requires { (n ≤ 8) × (Low (length env.old) (names_in n args) ×
-            ((room (length env.old) (state_of env.old homes.old self [] []) < length homes.old) ×
-            (Maps env.old homes.old × (length homes.old ≤ length heads.old)))) }
-        ensures { (ns : List ℕ) →
-            state_of env.new homes.new result heads.new ns ≡
-            gen_new_vals (state_of env.old homes.old self heads.old ns) (names_in n args) }
+    // Numbers arguments, left to right, where they have no number.
+    pub fn gen_new_vals(&mut self, args: &[u16])
+        requires { Low 256 (map nm args.now) × (room 256 (state_of self.old) < 512) }
+        ensures { state_of self.new ≡ gen_new_vals (state_of self.old) (map nm args.now) }
     {
-        let m = n as usize;
-        let mut st = self;
-        let mut at: usize = 0;
-        while at < m {
-            st = st.see(env, homes, heads, NameIx(args[at]));
-            at += 1;
+        for x in args {
+            self.see(NameIx(*x));
         }
-        st
     }
 
-    // Dest takes the number of the value v, which is handed back with the state; where v has none, the next one, whose home is dest.
-    pub fn number_dest(
-        self,
-        env: &mut [u16],
-        homes: &mut [u16],
-        heads: &mut [u64],
-        nums: &mut [u64],
-        dest: NameIx,
-        v: Value,
-    ) -> Settled
-        requires { (dest.0 < length env.old) × ((self.count < length homes.old) ×
-            (Tables env.old homes.old heads.old nums.old × ((a : ValNum) → expr_of v ≡ some (one Id a) → a.0 ≢ 65535))) }
-        ensures { (numbered_of result.number ≡
-            val_num_of (state_of env.old homes.old self heads.old nums.old) (expr_of v)) ×
-            (state_of env.new homes.new result.state heads.new nums.new ≡
-            settled (state_of env.old homes.old self heads.old nums.old) dest (expr_of v)) }
+    // Dest takes the number of the value v, which is handed back; where v has none, the next one, whose home is dest.
+    pub fn number_dest(&mut self, dest: NameIx, v: Value) -> Option<ValNum>
+        requires { (dest.0 < 256) × ((self.old.values.count < 512) × ((a : ValNum) → expr_of v ≡ some (one Id a) → a.0 ≢ 65535)) }
+        ensures { (numbered_of result ≡ val_num_of (state_of self.old) (expr_of v)) ×
+            (state_of self.new ≡ settled (state_of self.old) dest (expr_of v)) }
     {
-        let number = lvn_values::get_val_num(heads, nums, self.count, v);
-        match number {
-            Numbered::Is(u) => {
-                let state = self.update_env(env, dest, u);
-                Settled {
-                    state: state,
-                    number: number,
-                }
+        match self.get_val_num(v) {
+            Some(u) => {
+                self.update_env(dest, u);
+                Some(u)
             }
-            Numbered::Unseen => {
-                let state = self.give(env, homes, heads, nums, dest, v);
-                Settled {
-                    state: state,
-                    number: number,
-                }
+            None => {
+                self.give(dest, v);
+                None
             }
         }
     }
 
     // Before dest is written: if it is the home of its present number, a made name becomes the home and K is raised, unless the
-    // instruction reads exactly `x = id x`. n: how many names the input has.
-    pub fn handle_overwrite(
-        self,
-        env: &[u16],
-        homes: &mut [u16],
-        n: u16,
-        dest: NameIx,
-        v: Value,
-    ) -> Saved
-        requires { (dest.0 < length env.now) × ((n + self.made < 65535) × Maps env.now homes.old) }
-        ensures { (hs ns : List ℕ) (i : Instr) → i.dest ≡ dest →
-            saved_of env.now homes.new result hs ns i ≡
-            handle_overwrite n (state_of env.now homes.old self hs ns) i (expr_of v) }
+    // instruction reads exactly `x = id x`. The made name is handed back. n: how many names the input has.
+    pub fn handle_overwrite(&mut self, n: u16, dest: NameIx, v: Value) -> Option<NameIx>
+        requires { (dest.0 < 256) × (n + self.old.made < 65535) }
+        ensures { (i : Instr) → i.dest ≡ dest →
+            saved_of self.new result i ≡ handle_overwrite n (state_of self.old) i (expr_of v) }
     {
-        if !writes_home(homes, dest, v) {
-            let d = dest.0 as usize;
-            let num = env[d];
-            let k = num as usize;
-            if k < homes.len() {
-                if homes[k] == dest.0 {
-                    let made = NameIx(n + self.made);
-                    homes[k] = made.0;
-                    let state = LvnState {
-                        count: self.count,
-                        made: self.made + 1,
-                    };
-                    return Saved {
-                        state: state,
-                        made: made,
-                    };
-                }
-            }
+        if self.writes_home(dest, v) {
+            return None;
         }
-        Saved {
-            state: self,
-            made: NameIx(65535),
+        let num = self.env[dest.0 as usize] as usize;
+        if num >= NUMBERS || self.homes[num] != dest.0 {
+            return None;
         }
+        let made = NameIx(n + self.made);
+        self.homes[num] = made.0;
+        self.made += 1;
+        Some(made)
     }
-}
 
-// Whether the instruction of a value is `x = id x`: an id of the number whose home is dest.
-pub fn writes_home(homes: &[u16], dest: NameIx, v: Value) -> bool
-    ensures { result ≡ itself (locs_of homes.now) dest (expr_of v) }
-{
-    match v {
-        Value::One(o, a) => match o {
-            One::Id => {
-                let x = home_in(homes, a);
-                x.0 == dest.0
-            }
-            One::Not => false,
-        },
-        _ => false,
+    // Whether the instruction of a value is `x = id x`: an id of the number whose home is dest.
+    pub fn writes_home(&self, dest: NameIx, v: Value) -> bool
+        ensures { result ≡ itself (state_of self.now).locs dest (expr_of v) }
+    {
+        match v {
+            Value::One(o, a) => match o {
+                One::Id => self.home(a).0 == dest.0,
+                One::Not => false,
+            },
+            _ => false,
+        }
     }
 }

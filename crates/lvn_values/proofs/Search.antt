@@ -1,16 +1,21 @@
--- The table read at a number, and a step of the search.
+-- The table read at a number, a step of the search, and the next number's entry.
 use Prim.Native.Nat.{ℕ, suc, ◌+◌, ◌-◌, ◌<◌, ◌≤◌}
-use mathlib.Core.Path.{◌≡◌, sym, ◌∙◌}
-use mathlib.Core.Bool.{cond}
+use mathlib.Core.Path.{◌≡◌, refl, sym, ap, ◌∙◌, fun_ext}
+use mathlib.Core.Logic.{◌≢◌}
+use mathlib.Core.Bool.{Bool, true, false, cond}
 use mathlib.Core.List.{List}
-use mathlib.Core.Option.{none, some}
+use mathlib.Core.Option.{Option, none, some}
 use native.Mathlib.Numerals.{add-one}
 use native.Mathlib.Omega.{arith}
-use lib.ListN.{get_or}
-use borrow.Author.Tests.{lt-ltb, le-ltb}
+use lib.Dec.{ltb}
+use lib.ListN.{length, get_or, set}
+use lib.Seq.{get_or-set_same, get_or-set_other}
+use borrow.Author.Tests.{lt-ltb, le-ltb, ltb-true, ltb-false}
+use Rattle.arith.specs.Map.{upd}
+use Rattle.arith.proofs.Map.{upd_same, upd_other}
 use Rattle.arith.specs.Operation.{Expr}
 use Rattle.numbering.specs.declared.ValNum.{ValNum}
-use Rattle.numbering.specs.State.{vn}
+use Rattle.numbering.specs.State.{vn, ValNum-discrete}
 use Rattle.numbering.specs.Number.{same_expr, find}
 use Rattle.lvn_values.specs.Table.{expr_at, vals_of}
 use Rattle.lvn_values.proofs.Entries.{same_entry, other_entry}
@@ -52,3 +57,42 @@ module _ (hs ns : List ℕ) (h k n i : ℕ) (e : Expr ValNum) (here : expr_at h 
 
     pub other_num : (get_or ns i 0 ≡ k → ⊥) → find (vals_of hs ns n) e (i + 1) (n - (i + 1)) ≡ find (vals_of hs ns n) e i (n - i)
     other_num f = miss (λ p. f p.1)
+
+-- the next number's entry: what stands at the numbers before it stays
+module _ (hs ns ks ms : List ℕ) (c : ℕ) where
+  pub vals_next :
+      ((u : ℕ) → u ≢ c → get_or ks u 0 ≡ get_or hs u 0) →
+      ((u : ℕ) → u ≢ c → get_or ms u 0 ≡ get_or ns u 0) →
+      vals_of ks ms (suc c) ≡ upd ValNum-discrete (vals_of hs ns c) (vn c) (expr_at (get_or ks c 0) (get_or ms c 0))
+  vals_next same_heads same_nums = fun_ext (λ u. by u (ValNum-discrete u (vn c)))
+    where
+      e : Option (Expr ValNum)
+      e = expr_at (get_or ks c 0) (get_or ms c 0)
+
+      old : (u : ValNum) → u.0 ≢ c → (b : Bool) → ltb u.0 c ≡ b → vals_of ks ms (suc c) u ≡ vals_of hs ns c u
+      old u n true t =
+          let l : u.0 < c = ltb-true u.0 c t in
+          vals_in ks ms (suc c) u (omega arith) ∙
+          ap (λ (k : ℕ). expr_at k (get_or ms u.0 0)) (same_heads u.0 n) ∙
+          ap (expr_at (get_or hs u.0 0)) (same_nums u.0 n) ∙
+          sym (vals_in hs ns c u l)
+      old u n false t =
+          let l : c ≤ u.0 = ltb-false u.0 c t in
+          vals_past ks ms (suc c) u (omega arith) ∙ sym (vals_past hs ns c u l)
+
+      by : (u : ValNum) → Dec (u ≡ vn c) → vals_of ks ms (suc c) u ≡ upd ValNum-discrete (vals_of hs ns c) (vn c) e u
+      by u (yes p) =
+          ap (vals_of ks ms (suc c)) p ∙ vals_in ks ms (suc c) (vn c) (omega arith) ∙
+          sym (upd_same ValNum-discrete (vals_of hs ns c) (vn c) e u p)
+      by u (no q) =
+          old u (λ r. q (λ i. vn (r i))) (ltb u.0 c) refl ∙
+          sym (upd_other ValNum-discrete (vals_of hs ns c) (vn c) e u q)
+
+module _ (hs ns : List ℕ) (c : ℕ) (kh : c < length hs) where
+  pub vals_set :
+      (h n : ℕ) → c < length ns →
+      vals_of (set hs c h) (set ns c n) (suc c) ≡ upd ValNum-discrete (vals_of hs ns c) (vn c) (expr_at h n)
+  vals_set h n kn =
+      vals_next hs ns (set hs c h) (set ns c n) c (λ u q. get_or-set_other hs c u h 0 q) (λ u q. get_or-set_other ns c u n 0 q) ∙
+      ap (λ (k : ℕ). upd ValNum-discrete (vals_of hs ns c) (vn c) (expr_at k (get_or (set ns c n) c 0))) (get_or-set_same hs c h 0 kh) ∙
+      ap (λ (k : ℕ). upd ValNum-discrete (vals_of hs ns c) (vn c) (expr_at h k)) (get_or-set_same ns c n 0 kn)

@@ -1,5 +1,5 @@
--- The lent table of numbered values: of each number a head, which holds the operator and the operands, and a constant.
-use Rattle.std.specs.Prelude.{ℕ, zero, suc, ◌+◌, ◌*◌, ◌/◌, ◌%◌, Bool, false, cond, ◌&&◌, ◌||◌, List, eqb, ltb, get_or}
+-- The table of numbered values: of each number a head, which holds the operator and the operands, and a constant.
+use Rattle.std.specs.Prelude.{ℕ, zero, suc, ◌+◌, ◌*◌, ◌/◌, ◌%◌, Bool, false, cond, ◌&&◌, ◌||◌, List, eqb, ltb, get_or, Option as Maybe, None, Some}
 use Rattle.std.proofs.Math.Option.{Option, none, some}
 use Rattle.arith.specs.Code.{code1, code2, one_of, two_of}
 use Rattle.arith.specs.Value.{Val, int, float, literal, char, bool, pointer}
@@ -7,8 +7,6 @@ use Rattle.arith.specs.Operation.{Expr, constant, one, two}
 use Rattle.numbering.specs.declared.ValNum.{ValNum}
 use Rattle.numbering.specs.State.{State, vn}
 use Rattle.numbering.specs.Number.{get_val_num}
-use Rattle.lvn_values.specs.declared.Numbered.{Numbered}
-use Rattle.lvn_values.specs.declared.Numbered.TheVariants.{Unseen, Is}
 
 -- ---- what stands in the table for an expression
 abbrev pub packed : ℕ → ℕ → ℕ → ℕ
@@ -84,9 +82,9 @@ holds l x i zero = false
 holds l x i (suc n) = eqb (get_or l i 0) x || holds l x (i + 1) n
 
 -- ---- answers
-abbrev pub numbered_of : Numbered → Option ValNum
-numbered_of Unseen = none
-numbered_of (Is v) = some v
+abbrev pub numbered_of : Maybe ValNum → Option ValNum
+numbered_of None = none
+numbered_of (Some v) = some v
 
 -- the number of a value; one that is new each time has none
 abbrev pub val_num_of : State → Option (Expr ValNum) → Option ValNum

@@ -5,31 +5,31 @@ use mathlib.Core.Path.{◌≡◌, refl, sym, ap, ◌∙◌, subst}
 use mathlib.Core.List.{List, [], ◌∷◌}
 use mathlib.Core.Bool.{Bool, true, false, cond}
 use native.Mathlib.Omega.{arith}
-use lib.ListN.{length, get_or, take, drop}
-use lib.Dec.{ltb, eqb}
-use borrow.Author.Tests.{lt-ltb, le-ltb, lt-leb, le-leb, eq-eqb, ne_eqb}
-use Rattle.record.specs.declared.Refusal.{Refusal}
+use lib.ListN.{length, take, drop}
+use lib.Dec.{ltb}
+use borrow.Author.Tests.{lt-ltb, le-ltb, lt-leb, le-leb}
+use Rattle.std.specs.Prelude.{Result, Ok, Err}
+use Rattle.std.specs.Result.{result_and}
+use Rattle.arith.proofs.Clash.{clash}
 use Rattle.record.specs.declared.Refusal.TheVariants.{Length, Name}
-use Rattle.record.specs.declared.Test.TheVariants.{Passes}
-use Rattle.record.specs.declared.Next.{Next}
-use Rattle.record.specs.declared.Next.TheVariants as next
-use Rattle.record.specs.declared.Checked.TheVariants as checks
+use Rattle.record.specs.declared.Fault.{Fault}
 use Rattle.record.specs.Reader.{Res, got, fault, refuse, give, here, num_at, field, text, times}
 use Rattle.record.specs.Tests.{any}
-use Rattle.record.specs.Answer.{verdict, checked}
+use Rattle.record.specs.Answer.{fault_at, verdict, checked}
 use Rattle.record.specs.Decode.{behind, name_end, record_from}
 use Rattle.record.proofs.Takes.{bind_got}
 use Rattle.record.proofs.Judged.{accepted_as, refused_as}
 use Rattle.record.proofs.Fields.{field_tells, text_tells}
-use Rattle.record.proofs.Following.{verdict_got, verdict_fault, read_no, read_is, here_is, made}
-use Rattle.numbering.specs.declared.Named.{Named}
-use Rattle.numbering.specs.declared.Named.TheVariants.{Text, Refused, Mismatch}
-use Rattle.numbering.specs.NameText.{Part, NameText, name_part, parts_of, nth_part, choose, from_parts, refused, headed, with_input, name_text, bytes_of}
-use Rattle.name_text.specs.Found.{part_at, part_from, starts_at}
+use Rattle.record.proofs.Following.{verdict_got, read_no, read_is, here_is, made}
+use Rattle.numbering.specs.declared.NameError.{NameError}
+use Rattle.numbering.specs.declared.NameError.TheVariants.{Refused, Mismatch}
+use Rattle.numbering.specs.NameText.{Part, NameText, name_part, parts_of, nth_part, choose, from_parts, refused, headed, with_input, name_text}
+use Rattle.name_text.specs.declared.Place.{Place}
+use Rattle.name_text.specs.Found.{found, IsWithin, part_at, part_from}
 
 -- ---- one name
 -- a text that is not looked at is a field that is not looked at
-text_skipped : (n : ℕ) (s : List ℕ) (t : ℕ) → verdict (field n any s t) ≡ verdict (text n (λ t. Passes) s t)
+text_skipped : (n : ℕ) (s : List ℕ) (t : ℕ) → verdict (field n any s t) ≡ verdict (text n (λ t. (Ok tt)) s t)
 unfolding field text any
 text_skipped n s t = go (ltb (length s - t) n)
   where
@@ -39,22 +39,22 @@ text_skipped n s t = go (ltb (length s - t) n)
     go false = refl
 
 module _ (b : Bool) (s : List ℕ) (p : ℕ) where
-  pub type_past : (k : Refusal) (o : ℕ) → field 1 any s p ≡ fault k o → next.Refused k o ≡ verdict (name_part b s p)
+  pub type_past : (f : Fault) → field 1 any s p ≡ fault f.refusal f.offset → Err f ≡ verdict (name_part b s p)
   unfolding name_part
-  type_past k o e = read_no _ _ s p k o e
+  type_past f e = read_no _ _ s p f e
 
   module _ (x q : ℕ) (e : field 1 any s p ≡ got x q) where
-    pub length_past : (k : Refusal) (o : ℕ) → field 1 any s q ≡ fault k o → next.Refused k o ≡ verdict (name_part b s p)
+    pub length_past : (f : Fault) → field 1 any s q ≡ fault f.refusal f.offset → Err f ≡ verdict (name_part b s p)
     unfolding name_part
-    length_past k o f = read_is _ _ s p x q _ e (read_no _ _ s q k o f)
+    length_past f h = read_is _ _ s p x q _ e (read_no _ _ s q f h)
 
-    pub text_last : (n t : ℕ) (v : Next) → field 1 any s q ≡ got n t → v ≡ verdict (field n any s t) → v ≡ verdict (name_part b s p)
+    pub text_last : (n t : ℕ) (v : Result ℕ Fault) → field 1 any s q ≡ got n t → v ≡ verdict (field n any s t) → v ≡ verdict (name_part b s p)
     unfolding name_part
     text_last n t v f h =
         read_is _ _ s p x q v e
         (read_is _ _ s q n t v f
         (here_is _ s t v
-        (h ∙ text_skipped n s t ∙ sym (made (text n (λ t. Passes)) (λ t'. record { rewriting = b; from = t; count = n }) s t))))
+        (h ∙ text_skipped n s t ∙ sym (made (text n (λ t. (Ok tt))) (λ t'. record { rewriting = b; from = t; count = n }) s t))))
 
 -- ---- what is told by parts that were read
 -- the part of the name at p lies within the record
@@ -71,8 +71,8 @@ module _ (b : Bool) (s : List ℕ) where
       let fc = field_tells 1 any s a.place c.value c.place c.first in
       let h = bind_got here _ s c.place x q c.second in
       let eh : (h.value ≡ c.place) × (h.place ≡ c.place) = (cc h.first, cc h.first) in
-      let d = bind_got (text c.value (λ t. Passes)) _ s h.place x q h.second in
-      let fd = text_tells c.value (λ t. Passes) s h.place d.value d.place d.first in
+      let d = bind_got (text c.value (λ t. (Ok tt))) _ s h.place x q h.second in
+      let fd = text_tells c.value (λ t. (Ok tt)) s h.place d.value d.place d.first in
       let n : c.value ≡ num_at s (p + 1) 1 = fc.value ∙ ap (λ (k : ℕ). num_at s k 1) fa.ends in
       let t : c.place ≡ p + 1 + 1 = fc.ends ∙ ap (λ (k : ℕ). k + 1) fa.ends in
       let same : x ≡ record { rewriting = b; from = h.value; count = c.value } = cc d.second in
@@ -117,7 +117,7 @@ module _ (b : Bool) (s : List ℕ) where
 abbrev pub Lies : List ℕ → List ℕ → NameText → Type 0
 Lies input rewriting t = (t.part.from + t.part.count ≤ length (cond t.part.rewriting rewriting input))
 
-pub refused_lies : (a r : List ℕ) (t : NameText) (k : Named) → t ≡ refused k → Lies a r t
+pub refused_lies : (a r : List ℕ) (t : NameText) (k : NameError) → t ≡ refused k → Lies a r t
 refused_lies a r t k e = subst (λ (t : NameText). Lies a r t) (sym e) (omega arith)
 
 -- ---- the choice
@@ -130,20 +130,20 @@ module _ (i p q : ℕ) (ps qs : List Part) where
   too_few h = rw (lt-leb (length ps) (length qs) h)
 
   module _ (g : length ps ≤ length qs) where
-    past_all : length qs ≤ i → refused (Refused Name 0) ≡ both_got
+    past_all : length qs ≤ i → refused (Refused (fault_at Name 0)) ≡ both_got
     unfolding from_parts choose
     past_all h = rw (le-leb (length ps) (length qs) g, le-ltb i (length qs) h)
 
-    of_first : i < length qs → i < length ps → record { answer = Text; part = nth_part ps i } ≡ both_got
+    of_first : i < length qs → i < length ps → record { answer = Ok tt; part = nth_part ps i } ≡ both_got
     unfolding from_parts choose
     of_first h k = rw (le-leb (length ps) (length qs) g, lt-ltb i (length qs) h, lt-ltb i (length ps) k)
 
-    of_second : i < length qs → length ps ≤ i → record { answer = Text; part = nth_part qs i } ≡ both_got
+    of_second : i < length qs → length ps ≤ i → record { answer = Ok tt; part = nth_part qs i } ≡ both_got
     unfolding from_parts choose
     of_second h k = rw (le-leb (length ps) (length qs) g, lt-ltb i (length qs) h, le-ltb i (length ps) k)
 
 module _ (a r : List ℕ) (i n m p q : ℕ) (t : NameText) (en : n ≡ num_at a 6 2) (em : m ≡ num_at r 6 2)
-    (ea : verdict (parts_of false a) ≡ next.At p) (er : verdict (parts_of true r) ≡ next.At q) where
+    (ea : verdict (parts_of false a) ≡ Ok p) (er : verdict (parts_of true r) ≡ Ok q) where
   abbrev whole : NameText
   whole = from_parts i (parts_of false a) (parts_of true r)
 
@@ -176,15 +176,15 @@ module _ (a r : List ℕ) (i n m p q : ℕ) (t : NameText) (en : n ≡ num_at a 
     fewer : length ga.0 ≤ length gr.0
     fewer = omega (arith, first_many, second_many, g)
 
-    pub chosen_past : m ≤ i → t ≡ refused (Refused Name 0) → (t ≡ whole) × Lies a r t
+    pub chosen_past : m ≤ i → t ≡ refused (Refused (fault_at Name 0)) → (t ≡ whole) × Lies a r t
     chosen_past h e =
-        (e ∙ past_all i p q ga.0 gr.0 fewer (omega (arith, second_many, h)) ∙ as_got, refused_lies a r t (Refused Name 0) e)
+        (e ∙ past_all i p q ga.0 gr.0 fewer (omega (arith, second_many, h)) ∙ as_got, refused_lies a r t (Refused (fault_at Name 0)) e)
 
     pub chosen_first : i < m → i < n → t ≡ part_from false a i → (t ≡ whole) × Lies a r t
     chosen_first h k e =
         let w = ta.each i (subst (λ (x : ℕ). i < x) en k) in (
           e
-              ∙ ap (λ (x : Part). record { answer = Text; part = x }) (sym w.0)
+              ∙ ap (λ (x : Part). record { answer = Ok tt; part = x }) (sym w.0)
               ∙ of_first i p q ga.0 gr.0 fewer (omega (arith, second_many, h)) (omega (arith, first_many, k))
               ∙ as_got,
           subst (λ (t : NameText). Lies a r t) (sym e) w.1,
@@ -194,48 +194,36 @@ module _ (a r : List ℕ) (i n m p q : ℕ) (t : NameText) (en : n ≡ num_at a 
     chosen_second h k e =
         let w = tr.each i (subst (λ (x : ℕ). i < x) em h) in (
           e
-              ∙ ap (λ (x : Part). record { answer = Text; part = x }) (sym w.0)
+              ∙ ap (λ (x : Part). record { answer = Ok tt; part = x }) (sym w.0)
               ∙ of_second i p q ga.0 gr.0 fewer (omega (arith, second_many, h)) (omega (arith, first_many, k))
               ∙ as_got,
           subst (λ (t : NameText). Lies a r t) (sym e) w.1,
         )
 
-module _ (i : ℕ) (x y : Res (List Part)) where
-  pub first_past : (k : Refusal) (o : ℕ) → verdict x ≡ next.Refused k o → refused Mismatch ≡ from_parts i x y
-  unfolding from_parts
-  first_past k o e = sym (ap (λ (z : Res (List Part)). from_parts i z y) (verdict_fault x k o e))
-
-  pub second_past :
-      (p : ℕ) (k : Refusal) (o : ℕ) → verdict x ≡ next.At p → verdict y ≡ next.Refused k o → refused Mismatch ≡ from_parts i x y
-  unfolding from_parts
-  second_past p k o e f = let g = verdict_got x p e in sym (λ j. from_parts i (g.1 j) (verdict_fault y k o f j))
-
--- ---- the head
-module _ (version : ℕ) (s : List ℕ) where
-  pub head_short : length s < 8 → false ≡ headed version s
-  head_short h = rw (lt-leb 8 (length s) h)
-
-  pub head_length : 8 ≤ length s → (l : ℕ) → l ≡ num_at s 0 4 → (l ≡ length s - 4 → ⊥) → false ≡ headed version s
-  head_length h l e d = rw (le-leb 8 (length s) h, ← e, ne_eqb l (length s - 4) d)
-
-  pub head_version :
-      8 ≤ length s → (l v : ℕ) → l ≡ num_at s 0 4 → l ≡ length s - 4 → v ≡ num_at s 4 1 → eqb v version ≡ headed version s
-  head_version h l v e d f = rw (le-leb 8 (length s) h, ← e, eq-eqb l (length s - 4) d, ← f)
+-- the names of one record run past its end
+pub not_both : (i : ℕ) (x y : Res (List Part)) (f : Fault) → Err f ≡ result_and (verdict x) (verdict y) → refused Mismatch ≡ from_parts i x y
+unfolding from_parts
+not_both i (fault k o) y f e = refl
+not_both i (got ps p) (fault k o) f e = refl
+not_both i (got ps p) (got qs q) f e = clash (cc)
 
 -- ---- the input's check
 module _ (a r : List ℕ) (i : ℕ) where
-  pub input_refused : (k : Refusal) (o : ℕ) → checked a ≡ checks.Refused k o → refused (Refused k o) ≡ name_text a r i
+  input_refused : (f : Fault) → checked a ≡ Err f → refused (Refused f) ≡ name_text a r i
   unfolding name_text with_input
-  input_refused k o e = sym (ap (with_input a r i) (refused_as a k o e))
+  input_refused f e = sym (ap (with_input a r i) (refused_as a f e))
 
-  input_accepted : (v : ℕ) → checked a ≡ checks.Accepted → v ≡ num_at a 4 1 →
+  pub not_checked : (z : Result Place NameError) (f : Fault) → z ≡ Err (Refused f) → checked a ≡ Err f → (found z ≡ name_text a r i) × IsWithin z a r
+  not_checked z f e h = (ap found e ∙ input_refused f h, subst (λ (z : Result Place NameError). IsWithin z a r) (sym e) (omega arith))
+
+  input_accepted : (v : ℕ) → checked a ≡ Ok tt → v ≡ num_at a 4 1 →
       cond (headed v r) (from_parts i (parts_of false a) (parts_of true r)) (refused Mismatch) ≡ name_text a r i
   unfolding name_text with_input record_from
   input_accepted v e ev =
       ap (λ (v : ℕ). cond (headed v r) (from_parts i (parts_of false a) (parts_of true r)) (refused Mismatch)) ev ∙
       sym (ap (with_input a r i) (accepted_as a e).got)
 
-  module _ (v : ℕ) (e : checked a ≡ checks.Accepted) (ev : v ≡ num_at a 4 1) where
+  module _ (v : ℕ) (e : checked a ≡ Ok tt) (ev : v ≡ num_at a 4 1) where
     pub when_headed : headed v r ≡ true → from_parts i (parts_of false a) (parts_of true r) ≡ name_text a r i
     when_headed h =
         sym (ap (λ (b : Bool). cond b (from_parts i (parts_of false a) (parts_of true r)) (refused Mismatch)) h) ∙ input_accepted v e ev
@@ -243,29 +231,3 @@ module _ (a r : List ℕ) (i : ℕ) where
     pub when_not : headed v r ≡ false → refused Mismatch ≡ name_text a r i
     when_not h =
         sym (ap (λ (b : Bool). cond b (from_parts i (parts_of false a) (parts_of true r)) (refused Mismatch)) h) ∙ input_accepted v e ev
-
--- ---- the part that the code makes; p: the name's place, x: its text's length
-pub text_found : (b : Bool) (s : List ℕ) (i p x : ℕ) → p ≡ behind (name_end s) 8 i → x ≡ get_or s (p + 1) 0 →
-    ◌≡◌ {A = NameText} (record { answer = Text; part = record { rewriting = b; from = p + 1 + 1; count = x } }) (part_from b s i)
-text_found b s i p x e f =
-    ap (λ (x : ℕ). record { answer = Text; part = record { rewriting = b; from = p + 1 + 1; count = x } }) f
-    ∙ ap (λ (p : ℕ). record { answer = Text; part = part_at b s p }) e
-
--- a part of the rewriting, a part of the input
-module _ (b : Bool) (input rewriting : List ℕ) (x : ℕ) (h : x ≤ length (cond b rewriting input)) where
-  pub in_rewriting : b ≡ true → x ≤ length rewriting
-  in_rewriting e = subst (λ (b : Bool). x ≤ length (cond b rewriting input)) e h
-
-  pub in_input : b ≡ false → x ≤ length input
-  in_input e = subst (λ (b : Bool). x ≤ length (cond b rewriting input)) e h
-
--- the bytes of the part that is handed back
-module _ (input rewriting : List ℕ) (t u : NameText) (same : t ≡ u) where
-  pub text_bytes : (s : List ℕ) (d : ℕ) → s ≡ cond t.part.rewriting rewriting input → d ≡ t.part.count →
-      take d (drop t.part.from s) ≡ bytes_of input rewriting u.part
-  text_bytes s d e f = (λ j. take (f j) (drop t.part.from (e j))) ∙ ap (λ (t : NameText). bytes_of input rewriting t.part) same
-
-  -- and where they stand
-  pub text_starts : (i r at : ℕ × ℕ) → at ≡ cond t.part.rewriting r i → (at.0, t.part.from + at.1) ≡ starts_at i r u.part
-  text_starts i r at e =
-      ap (λ (at : ℕ × ℕ). (at.0, t.part.from + at.1)) e ∙ ap (λ (t : NameText). starts_at i r t.part) same

@@ -11,8 +11,9 @@ use lib.Seq.{take-append_seam, drop-append_seam}
 use lib.Dec.{ltb}
 use borrow.Author.Tests.{ltb-true, ltb-false}
 use Rattle.arith.proofs.Clash.{clash}
-use Rattle.record.specs.declared.Refusal.{Refusal}
-use Rattle.record.specs.declared.Checked.TheVariants as check
+use Rattle.std.specs.Prelude.{Ok, Err}
+use Rattle.record.specs.declared.Fault.{Fault}
+use Rattle.record.specs.Answer.{fault_at}
 use Rattle.record.specs.Record.{Instr, Placed, Block, Record, plain, plain_block, function, limits, wide}
 use Rattle.record.specs.Reader.{Res, got, fault}
 use Rattle.record.specs.Read.{read}
@@ -23,9 +24,10 @@ use Rattle.record.proofs.Accepted.{read_ok}
 use Rattle.record.proofs.ReadBack.{ReadsBack}
 use Rattle.record.proofs.Tests.{at_most_le}
 use Rattle.record.proofs.Typed.{accept_typed}
-use Rattle.numbering.specs.declared.Figured.TheVariants.{Counted, Refused, TooFew}
-use Rattle.numbering.specs.declared.Rewritten.TheVariants.{Written, Room}
-use Rattle.numbering.specs.declared.Rewritten.TheVariants as rewrites
+use Rattle.numbering.specs.declared.FiguresError.TheVariants.{Refused, TooFew}
+use Rattle.numbering.specs.declared.RewriteError.TheVariants.{Room}
+use Rattle.numbering.specs.declared.RewriteError.TheVariants as rewrites
+use Rattle.numbering.specs.Rewrite.{totals}
 use Rattle.numbering.specs.Number.{lvn}
 use Rattle.numbering.specs.Made.{made, rewriting}
 use Rattle.numbering.specs.Rewrite.{rewritten_bytes, rewrite, rewrite_leaves}
@@ -34,7 +36,7 @@ use Rattle.numbering.specs.Ways.{all_saves, Faulty, TooShort, HasRoom}
 use Rattle.numbering.specs.Ahead.{FewPlaces, Foretold}
 use Rattle.numbering.proofs.Wide.{BlocksOk, blocks_length, rewriting_passes}
 use Rattle.numbering.proofs.Output.{rewriting_reads_back}
-use Rattle.numbering.proofs.Ways.{made_saves, same_value, three_ways}
+use Rattle.numbering.proofs.Ways.{same_bytes, same_saves, made_saves, same_value, three_ways}
 
 -- ---- the figures of the blocks
 rewriting_many : (r : Record Placed) → length (rewriting (plain r)).blocks ≡ length r.blocks
@@ -62,11 +64,11 @@ pub record EnoughPlaces (s : List ℕ) (places : ℕ) : Type 0 where
 
 -- each with its answer, and with what it leaves of the places
 pub data FiguresEnd (s each : List ℕ) : Type 0 where
-  faulty : (w : Faulty s) → figures s each ≡ Refused w.reason w.offset → figures_leaves s each ≡ each → FiguresEnd s each
-  few : FewPlaces s (length each) → figures s each ≡ TooFew → figures_leaves s each ≡ each → FiguresEnd s each
+  faulty : (w : Faulty s) → figures s each ≡ Err (Refused w.fault) → figures_leaves s each ≡ each → FiguresEnd s each
+  few : FewPlaces s (length each) → figures s each ≡ Err TooFew → figures_leaves s each ≡ each → FiguresEnd s each
   enough :
       (w : EnoughPlaces s (length each)) →
-      figures s each ≡ Counted (length (rewritten_bytes w.it)) (length (made (plain w.it))) →
+      figures s each ≡ Ok (totals (length (rewritten_bytes w.it)) (length (made (plain w.it)))) →
       figures_leaves s each ≡ block_figures w.it ++ drop (length w.it.blocks) each →
       FiguresEnd s each
 
@@ -77,7 +79,7 @@ figures_end s each = go (accept limits s) refl
   where
     accepted :
         (r : Record Placed) (p : ℕ) → accept limits s ≡ got r p → (b : Bool) → ltb (length each) (length r.blocks) ≡ b →
-        figures s each ≡ cond b TooFew (Counted (length (rewritten_bytes r)) (length (made (plain r)))) →
+        figures s each ≡ cond b (Err TooFew) (Ok (totals (length (rewritten_bytes r)) (length (made (plain r))))) →
         figures_leaves s each ≡ cond b each (block_figures r ++ drop (length r.blocks) each) →
         FiguresEnd s each
     accepted r p e true l = few (record { it = r; end = p; accepted = e; few = ltb-true (length each) (length r.blocks) l })
@@ -87,7 +89,7 @@ figures_end s each = go (accept limits s) refl
     go (got r p) e =
         accepted r p e (ltb (length each) (length r.blocks)) refl (ap (figures_result (length each)) e) (ap (figures_places each) e)
     go (fault k o) e =
-        faulty (record { reason = k; offset = o; refused = ap checked_as e })
+        faulty (record { fault = fault_at k o; refused = ap checked_as e })
         (ap (figures_result (length each)) e) (ap (figures_places each) e)
 
 -- ---- enough places: what is foretold
@@ -122,18 +124,18 @@ module _ (s : List ℕ) (r : Record Placed) (p : ℕ) (e : accept limits s ≡ g
   -- and as no other
   written_reads :
       (out : List ℕ) (n k : ℕ) (q : Record Placed) (m : ℕ) →
-      rewrite s out ≡ Written n k → read wide (take n (rewrite_leaves s out)) 0 ≡ got q m → q ≡ back.back
+      rewrite s out ≡ Ok (totals n k) → read wide (take n (rewrite_leaves s out)) 0 ≡ got q m → q ≡ back.back
   written_reads out n k q m a f = go (ltb (length out) needed) refl
     where
       go : (b : Bool) → ltb (length out) needed ≡ b → q ≡ back.back
       go true l =
           let t : TooShort s (length out) = record { it = r; end = p; accepted = e; short = ltb-true (length out) needed l } in
-          let c : rewrite s out ≡ Room (length (rewritten_bytes t.it)) = ((three_ways s out).too_short t).0 in
+          let c : rewrite s out ≡ Err (Room (length (rewritten_bytes t.it))) = ((three_ways s out).too_short t).0 in
           clash (cc)
       go false l =
           let h = ltb-false (length out) needed l in
-          let c : rewrite s out ≡ Written needed (all_saves (rewriting (plain r)).blocks) = ((three_ways s out).has_room (with_room out h)).0 in
-          let many : n ≡ needed = cc in
+          let c : rewrite s out ≡ Ok (totals needed (all_saves (rewriting (plain r)).blocks)) = ((three_ways s out).has_room (with_room out h)).0 in
+          let many : n ≡ needed = same_bytes (rewrite s out) a c in
           let g = ap (λ j. read wide (take j (rewrite_leaves s out)) 0) (sym many) ∙ f in
           same_value _ q back.back m needed g (reads_written out h)
 
@@ -147,7 +149,7 @@ module _ (s : List ℕ) (r : Record Placed) (p : ℕ) (e : accept limits s ≡ g
       let rest = drop (length r.blocks) each in
       let many : length back.back.blocks ≡ length (block_figures r) = back_many ∙ sym (figures_many r) in
       record {
-        written = λ out l. ((three_ways s out).has_room (with_room out l)).0 ∙ ap (Written needed) (sym (made_saves r));
+        written = λ out l. ((three_ways s out).has_room (with_room out l)).0 ∙ ap (λ k. Ok (totals needed k)) (sym (made_saves r));
         short = λ out l. ((three_ways s out).too_short (record { it = r; end = p; accepted = e; short = l })).0;
         output = back.back;
         reads = reads_written;
@@ -165,91 +167,91 @@ module _ (s : List ℕ) (r : Record Placed) (p : ℕ) (e : accept limits s ≡ g
       }
 
 -- the figures of an input are those that rewrite gives
-pub figures_foretell : (s each : List ℕ) (n k : ℕ) → figures s each ≡ Counted n k → Foretold s each n k
+pub figures_foretell : (s each : List ℕ) (n k : ℕ) → figures s each ≡ Ok (totals n k) → Foretold s each n k
 figures_foretell s each n k e = go (figures_end s each)
   where
     go : FiguresEnd s each → Foretold s each n k
     go (faulty w a l) = clash (cc)
     go (few w a l) = clash (cc)
     go (enough w a l) =
-        let bytes : length (rewritten_bytes w.it) ≡ n = cc in
-        let saves : length (made (plain w.it)) ≡ k = cc in
+        let bytes : length (rewritten_bytes w.it) ≡ n = same_bytes (figures s each) a e in
+        let saves : length (made (plain w.it)) ≡ k = same_saves (figures s each) a e in
         let f = enough_foretell s w.it w.end w.accepted each w.enough l in
         subst (λ m. Foretold s each m k) bytes (subst (Foretold s each (length (rewritten_bytes w.it))) saves f)
 
 -- ---- and whatever rewrite gives was foretold
 -- of an output: written, or too short
-either_way : (s each out : List ℕ) (n k : ℕ) → Foretold s each n k → (rewrite s out ≡ Written n k) ⊎ (rewrite s out ≡ Room n)
+either_way : (s each out : List ℕ) (n k : ℕ) → Foretold s each n k → (rewrite s out ≡ Ok (totals n k)) ⊎ (rewrite s out ≡ Err (Room n))
 either_way s each out n k f = go (ltb (length out) n) refl
   where
-    go : (b : Bool) → ltb (length out) n ≡ b → (rewrite s out ≡ Written n k) ⊎ (rewrite s out ≡ Room n)
+    go : (b : Bool) → ltb (length out) n ≡ b → (rewrite s out ≡ Ok (totals n k)) ⊎ (rewrite s out ≡ Err (Room n))
     go true l = inr (f.short out (ltb-true (length out) n l))
     go false l = inl (f.written out (ltb-false (length out) n l))
 
 pub written_was_foretold :
-    (s each out : List ℕ) (n k : ℕ) → rewrite s out ≡ Written n k → (figures s each ≡ Counted n k) ⊎ (figures s each ≡ TooFew)
+    (s each out : List ℕ) (n k : ℕ) → rewrite s out ≡ Ok (totals n k) → (figures s each ≡ Ok (totals n k)) ⊎ (figures s each ≡ Err TooFew)
 written_was_foretold s each out n k e = go (figures_end s each)
   where
     same :
-        (m j : ℕ) → figures s each ≡ Counted m j → (rewrite s out ≡ Written m j) ⊎ (rewrite s out ≡ Room m) →
-        figures s each ≡ Counted n k
+        (m j : ℕ) → figures s each ≡ Ok (totals m j) → (rewrite s out ≡ Ok (totals m j)) ⊎ (rewrite s out ≡ Err (Room m)) →
+        figures s each ≡ Ok (totals n k)
     same m j a (inl w) = cc
     same m j a (inr w) = clash (cc)
 
-    go : FiguresEnd s each → (figures s each ≡ Counted n k) ⊎ (figures s each ≡ TooFew)
+    go : FiguresEnd s each → (figures s each ≡ Ok (totals n k)) ⊎ (figures s each ≡ Err TooFew)
     go (faulty w a l) =
-        let r : rewrite s out ≡ rewrites.Refused w.reason w.offset = ((three_ways s out).faulty w).0 in
+        let r : rewrite s out ≡ Err (rewrites.Refused w.fault) = ((three_ways s out).faulty w).0 in
         clash (cc)
     go (few w a l) = inr a
     go (enough w a l) = inl (same _ _ a (either_way s each out _ _ (figures_foretell s each _ _ a)))
 
 pub room_was_foretold :
-    (s each out : List ℕ) (n : ℕ) → rewrite s out ≡ Room n → ((k : ℕ) × (figures s each ≡ Counted n k)) ⊎ (figures s each ≡ TooFew)
+    (s each out : List ℕ) (n : ℕ) → rewrite s out ≡ Err (Room n) → ((k : ℕ) × (figures s each ≡ Ok (totals n k))) ⊎ (figures s each ≡ Err TooFew)
 room_was_foretold s each out n e = go (figures_end s each)
   where
     same :
-        (m j : ℕ) → figures s each ≡ Counted m j → (rewrite s out ≡ Written m j) ⊎ (rewrite s out ≡ Room m) →
-        figures s each ≡ Counted n j
+        (m j : ℕ) → figures s each ≡ Ok (totals m j) → (rewrite s out ≡ Ok (totals m j)) ⊎ (rewrite s out ≡ Err (Room m)) →
+        figures s each ≡ Ok (totals n j)
     same m j a (inl w) = clash (cc)
     same m j a (inr w) = cc
 
-    go : FiguresEnd s each → ((k : ℕ) × (figures s each ≡ Counted n k)) ⊎ (figures s each ≡ TooFew)
+    go : FiguresEnd s each → ((k : ℕ) × (figures s each ≡ Ok (totals n k))) ⊎ (figures s each ≡ Err TooFew)
     go (faulty w a l) =
-        let r : rewrite s out ≡ rewrites.Refused w.reason w.offset = ((three_ways s out).faulty w).0 in
+        let r : rewrite s out ≡ Err (rewrites.Refused w.fault) = ((three_ways s out).faulty w).0 in
         clash (cc)
     go (few w a l) = inr a
     go (enough w a l) = inl (_, same _ _ a (either_way s each out _ _ (figures_foretell s each _ _ a)))
 
 -- ---- refusals
 -- check accepts what has a number of blocks
-accepts : (s : List ℕ) (r : Record Placed) (p : ℕ) → accept limits s ≡ got r p → checked s ≡ check.Accepted
+accepts : (s : List ℕ) (r : Record Placed) (p : ℕ) → accept limits s ≡ got r p → checked s ≡ Ok tt
 unfolding checked
 accepts s r p e = ap checked_as e
 
 -- check's refusals come before 12, and there are no others
-pub figures_refuse : (s each : List ℕ) (k : Refusal) (o : ℕ) → (figures s each ≡ Refused k o) ↔ (checked s ≡ check.Refused k o)
-figures_refuse s each k o = (go (figures_end s each), back (figures_end s each))
+pub figures_refuse : (s each : List ℕ) (f : Fault) → (figures s each ≡ Err (Refused f)) ↔ (checked s ≡ Err f)
+figures_refuse s each f = (go (figures_end s each), back (figures_end s each))
   where
-    go : FiguresEnd s each → figures s each ≡ Refused k o → checked s ≡ check.Refused k o
+    go : FiguresEnd s each → figures s each ≡ Err (Refused f) → checked s ≡ Err f
     go (faulty w a l) e = let c = w.refused in cc
     go (few w a l) e = clash (cc)
     go (enough w a l) e = clash (cc)
 
-    back : FiguresEnd s each → checked s ≡ check.Refused k o → figures s each ≡ Refused k o
+    back : FiguresEnd s each → checked s ≡ Err f → figures s each ≡ Err (Refused f)
     back (faulty w a l) e = let c = w.refused in cc
     back (few w a l) e = let c = accepts s w.it w.end w.accepted in clash (cc)
     back (enough w a l) e = let c = accepts s w.it w.end w.accepted in clash (cc)
 
 -- 12 where check accepts and the places are fewer than the blocks, and only there
-pub too_few : (s each : List ℕ) → (figures s each ≡ TooFew) ↔ FewPlaces s (length each)
+pub too_few : (s each : List ℕ) → (figures s each ≡ Err TooFew) ↔ FewPlaces s (length each)
 too_few s each = (go (figures_end s each), back (figures_end s each))
   where
-    go : FiguresEnd s each → figures s each ≡ TooFew → FewPlaces s (length each)
+    go : FiguresEnd s each → figures s each ≡ Err TooFew → FewPlaces s (length each)
     go (faulty w a l) e = clash (cc)
     go (few w a l) e = w
     go (enough w a l) e = clash (cc)
 
-    back : FiguresEnd s each → FewPlaces s (length each) → figures s each ≡ TooFew
+    back : FiguresEnd s each → FewPlaces s (length each) → figures s each ≡ Err TooFew
     back (faulty w a l) t =
         let c = w.refused in
         let d = accepts s t.it t.end t.accepted in
@@ -261,10 +263,10 @@ too_few s each = (go (figures_end s each), back (figures_end s each))
         absurd (omega (arith, n, t.few, w.enough))
 
 -- ---- nothing else is foretold
-alone_with : (s each out : List ℕ) (n k : ℕ) → n ≤ length out → Foretold s each n k → figures s each ≡ Counted n k
+alone_with : (s each out : List ℕ) (n k : ℕ) → n ≤ length out → Foretold s each n k → figures s each ≡ Ok (totals n k)
 alone_with s each out n k room f = go (written_was_foretold s each out n k (f.written out room))
   where
-    go : (figures s each ≡ Counted n k) ⊎ (figures s each ≡ TooFew) → figures s each ≡ Counted n k
+    go : (figures s each ≡ Ok (totals n k)) ⊎ (figures s each ≡ Err TooFew) → figures s each ≡ Ok (totals n k)
     go (inl a) = a
     go (inr a) =
         let t = (too_few s each).0 a in
@@ -273,7 +275,7 @@ alone_with s each out n k room f = go (written_was_foretold s each out n k (f.wr
         ap (λ q. length q.blocks) o ∙ back_many s t.it t.end t.accepted in
         absurd (omega (arith, b, t.few, f.many))
 
-pub foretold_alone : (s each : List ℕ) (n k : ℕ) → Foretold s each n k → figures s each ≡ Counted n k
+pub foretold_alone : (s each : List ℕ) (n k : ℕ) → Foretold s each n k → figures s each ≡ Ok (totals n k)
 foretold_alone s each n k =
     let out : List ℕ = replicate n 0 in
     let l : length out ≡ n = length-replicate n 0 in
@@ -294,7 +296,7 @@ figures_keep_length s each = go (figures_end s each)
         ap length l ∙ omega (arith, m, e, d, w.enough)
 
 -- no refusal writes a place
-pub figures_untouched : (s each : List ℕ) → ((n k : ℕ) → figures s each ≢ Counted n k) → figures_leaves s each ≡ each
+pub figures_untouched : (s each : List ℕ) → ((n k : ℕ) → figures s each ≢ Ok (totals n k)) → figures_leaves s each ≡ each
 figures_untouched s each h = go (figures_end s each)
   where
     go : FiguresEnd s each → figures_leaves s each ≡ each

@@ -12,7 +12,7 @@ use Rattle.arith.proofs.Clash.{clash}
 use Rattle.arith.specs.Code.{code1, code2, with_code, one_of, two_of}
 use Rattle.record.specs.declared.NameIx.{NameIx}
 use Rattle.record.specs.declared.Shape.{Shape}
-use Rattle.record.specs.declared.Test.TheVariants.{Passes}
+use Rattle.std.specs.Prelude.{Ok}
 use Rattle.record.specs.Record.{nm, Instr}
 use Rattle.record.specs.Shape.{shape_of, const, value, terminator, effect as effect_shape}
 use Rattle.record.specs.Form.{Form, pure, new, effect, return, nop, jump, branch, form}
@@ -56,7 +56,7 @@ two_there (x ∷ (y ∷ [])) e = refl
 two_there (x ∷ (y ∷ (z ∷ xs))) e = absurd (omega arith)
 
 -- the count that a shape asks for
-exactly : (sh : Shape) (n : ℕ) (xs : List NameIx) → sh.few ≡ n → sh.most ≡ n → count_test sh (length xs) ≡ Passes → length xs ≡ n
+exactly : (sh : Shape) (n : ℕ) (xs : List NameIx) → sh.few ≡ n → sh.most ≡ n → count_test sh (length xs) ≡ Ok tt → length xs ≡ n
 exactly sh n xs f m c =
     let a : sh.few ≤ length xs = count_few sh (length xs) c in
     let b : length xs ≤ sh.most = count_most sh (length xs) c in

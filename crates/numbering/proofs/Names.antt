@@ -9,7 +9,7 @@ use lib.ListN.{length, get_or}
 use lib.Dec.{leb}
 use borrow.Author.Tests.{leb-true, le-leb, not-true}
 use Rattle.record.specs.declared.NameIx.{NameIx}
-use Rattle.record.specs.declared.Test.TheVariants.{Passes}
+use Rattle.std.specs.Prelude.{Ok}
 use Rattle.record.specs.Record.{nm, Instr, Name, Record, function, texts, type_in, limits, wide}
 use Rattle.record.specs.Text.{well_formed, reserved, among}
 use Rattle.record.specs.Tests.{type_test, text_length_test, text_test}
@@ -21,7 +21,7 @@ use Rattle.numbering.proofs.Texts.{made_well_formed, made_short, made_text_lengt
 -- ---- the names of an input
 -- a type u and a text t of one of them
 pub record NameFine (u : ℕ) (t : List ℕ) : Type 0 where
-  pub type : type_test u ≡ Passes
+  pub type : type_test u ≡ Ok tt
   pub shaped : well_formed t ≡ true
   pub short : length t ≤ 32
 
@@ -30,31 +30,31 @@ text_passes :
     well_formed t ≡ true →
     (made || not (reserved t)) ≡ true →
     among t seen ≡ false →
-    text_test made seen t ≡ Passes
+    text_test made seen t ≡ Ok tt
 unfolding text_test
 text_passes made seen t w r a = rw (w, r, a)
 
-text_shaped : (made : Bool) (seen : List (List ℕ)) (t : List ℕ) → text_test made seen t ≡ Passes → well_formed t ≡ true
+text_shaped : (made : Bool) (seen : List (List ℕ)) (t : List ℕ) → text_test made seen t ≡ Ok tt → well_formed t ≡ true
 unfolding text_test
 text_shaped made seen t e = and_left (well_formed t) _ (need_passes _ _ e)
 
-text_allowed : (made : Bool) (seen : List (List ℕ)) (t : List ℕ) → text_test made seen t ≡ Passes → (made || not (reserved t)) ≡ true
+text_allowed : (made : Bool) (seen : List (List ℕ)) (t : List ℕ) → text_test made seen t ≡ Ok tt → (made || not (reserved t)) ≡ true
 unfolding text_test
 text_allowed made seen t e = and_left (made || not (reserved t)) _ (and_right (well_formed t) _ (need_passes _ _ e))
 
-pub text_apart : (made : Bool) (seen : List (List ℕ)) (t : List ℕ) → text_test made seen t ≡ Passes → among t seen ≡ false
+pub text_apart : (made : Bool) (seen : List (List ℕ)) (t : List ℕ) → text_test made seen t ≡ Ok tt → among t seen ≡ false
 unfolding text_test
 text_apart made seen t e = not-true (among t seen) (and_right (made || not (reserved t)) _ (and_right (well_formed t) _ (need_passes _ _ e)))
 
-length_passes : (most n : ℕ) → 1 ≤ n → n ≤ most → text_length_test most n ≡ Passes
+length_passes : (most n : ℕ) → 1 ≤ n → n ≤ most → text_length_test most n ≡ Ok tt
 unfolding text_length_test
 length_passes most n l h = rw (le-leb 1 n l, le-leb n most h)
 
-length_least : (most n : ℕ) → text_length_test most n ≡ Passes → 1 ≤ n
+length_least : (most n : ℕ) → text_length_test most n ≡ Ok tt → 1 ≤ n
 unfolding text_length_test
 length_least most n e = leb-true 1 n (and_left (leb 1 n) _ (need_passes _ _ e))
 
-length_most : (most n : ℕ) → text_length_test most n ≡ Passes → n ≤ most
+length_most : (most n : ℕ) → text_length_test most n ≡ Ok tt → n ≤ most
 unfolding text_length_test
 length_most most n e = leb-true n most (and_right (leb 1 n) _ (need_passes _ _ e))
 

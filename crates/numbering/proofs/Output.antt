@@ -24,7 +24,9 @@ use Rattle.record.proofs.Written.{Holds, bytes_written}
 use Rattle.record.proofs.Sizes.{record_size}
 use Rattle.record.proofs.ReadFrom.{read_length}
 use Rattle.record.proofs.Longest.{record_most}
-use Rattle.numbering.specs.declared.Rewritten.TheVariants.{Written, Room}
+use Rattle.std.specs.Prelude.{Ok, Err}
+use Rattle.numbering.specs.declared.RewriteError.TheVariants.{Room}
+use Rattle.numbering.specs.Rewrite.{totals}
 use Rattle.numbering.specs.Made.{made, rewriting}
 use Rattle.numbering.specs.Rewrite.{rewritten_bytes, rewrite_result, rewrite}
 use Rattle.numbering.specs.Program.{most_input, buffer_size}
@@ -70,16 +72,16 @@ module _ (s : List ℕ) (b : Bytes s) (r : Record Placed) (p : ℕ) (e : accept 
       omega arith
 
 -- "Its output buffer is 65,536 bytes, which suffices.": no input that the program reads is refused for want of room
-room_left : (room n k m : ℕ) (b : Bool) → ltb room n ≡ b → n ≤ room → cond b (Room n) (Written n k) ≡ Room m → ⊥
+room_left : (room n k m : ℕ) (b : Bool) → ltb room n ≡ b → n ≤ room → cond b (Err (Room n)) (Ok (totals n k)) ≡ Err (Room m) → ⊥
 room_left room n k m true q l e = let h : room < n = ltb-true room n q in omega arith
 room_left room n k m false q l e = clash (cc)
 
 pub buffer_suffices :
-    (s out : List ℕ) → Bytes s → length s ≤ most_input → buffer_size ≤ length out → (m : ℕ) → rewrite s out ≡ Room m → ⊥
+    (s out : List ℕ) → Bytes s → length s ≤ most_input → buffer_size ≤ length out → (m : ℕ) → rewrite s out ≡ Err (Room m) → ⊥
 unfolding rewrite rewrite_result
 buffer_suffices s out b l o m e = go (accept limits s) refl e
   where
-    go : (v : Res (Record Placed)) → accept limits s ≡ v → rewrite_result (length out) v ≡ Room m → ⊥
+    go : (v : Res (Record Placed)) → accept limits s ≡ v → rewrite_result (length out) v ≡ Err (Room m) → ⊥
     go (fault k x) q f = clash (cc)
     go (got r p) q f =
         let h : length (rewritten_bytes r) ≤ 8 * length s = accepted_size s b r p q in

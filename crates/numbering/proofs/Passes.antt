@@ -15,7 +15,7 @@ use Rattle.arith.specs.Code.{code1, code2}
 use Rattle.record.specs.declared.NameIx.{NameIx}
 use Rattle.record.specs.declared.Shape.{Shape}
 use Rattle.record.specs.declared.Refusal.TheVariants.{Code, Place}
-use Rattle.record.specs.declared.Test.TheVariants.{Passes}
+use Rattle.std.specs.Prelude.{Ok}
 use Rattle.record.specs.Record.{nm, Instr}
 use Rattle.record.specs.Shape.{targets, shape_of, const, value}
 use Rattle.record.specs.Form.{Form, pure, new, effect, return, nop, jump, branch, form}
@@ -79,21 +79,21 @@ const_literal (branch a b c) = tt
 -- ---- codes
 later_test :
     (k l b b' : Bool) →
-    and_then (need k Code) (need (b || not l) Place) ≡ Passes →
+    and_then (need k Code) (need (b || not l) Place) ≡ Ok tt →
     (b ≡ true → b' ≡ true) →
-    and_then (need k Code) (need (b' || not l) Place) ≡ Passes
+    and_then (need k Code) (need (b' || not l) Place) ≡ Ok tt
 later_test true l true b' e f = rw (f refl)
 later_test true l false true e f = refl
 later_test true l false false e f = e
 later_test false l b b' e f = clash (cc)
 
 -- a code stays in its place where the last place stays the last
-later_code : (c left left' : ℕ) → code_test (eqb left 0) c ≡ Passes → (left ≡ 0 → left' ≡ 0) → code_test (eqb left' 0) c ≡ Passes
+later_code : (c left left' : ℕ) → code_test (eqb left 0) c ≡ Ok tt → (left ≡ 0 → left' ≡ 0) → code_test (eqb left' 0) c ≡ Ok tt
 unfolding code_test
 later_code c left left' e f =
     later_test (shape_of c).known (shape_of c).last (eqb left 0) (eqb left' 0) e (λ q. eq-eqb left' 0 (f (eqb-true left 0 q)))
 
-code_anywhere : (c : ℕ) (b : Bool) → (shape_of c).known ≡ true → (shape_of c).last ≡ false → code_test b c ≡ Passes
+code_anywhere : (c : ℕ) (b : Bool) → (shape_of c).known ≡ true → (shape_of c).last ≡ false → code_test b c ≡ Ok tt
 unfolding code_test
 code_anywhere c true k l = rw k
 code_anywhere c false k l = rw (k, l)
@@ -115,7 +115,7 @@ const_passes M B left i v l h =
 pub value_passes :
     (M B left n : ℕ) (i : Instr) (c : ℕ) (xs : List NameIx) →
     shape_of c ≡ value n →
-    count_test (value n) (length xs) ≡ Passes →
+    count_test (value n) (length xs) ≡ Ok tt →
     i.dest.0 < M →
     Each (λ left x. IndexOk M x) xs →
     InstrOk M B left (make_val_instr i c xs)
@@ -133,11 +133,11 @@ value_passes M B left n i c xs e k l h =
           });
     }
 
-count_one : count_test (value 1) 1 ≡ Passes
+count_one : count_test (value 1) 1 ≡ Ok tt
 unfolding count_test
 count_one = refl
 
-count_two : count_test (value 2) 2 ≡ Passes
+count_two : count_test (value 2) 2 ≡ Ok tt
 unfolding count_test
 count_two = refl
 

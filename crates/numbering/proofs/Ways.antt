@@ -9,14 +9,16 @@ use lib.Dec.{ltb}
 use borrow.Author.Tests.{ltb-true, ltb-false, lt-ltb, le-ltb}
 use Rattle.arith.proofs.Clash.{clash}
 use Rattle.record.specs.declared.Refusal.{Refusal}
-use Rattle.record.specs.declared.Checked.TheVariants as check
+use Rattle.record.specs.Answer.{fault_at}
+use Rattle.std.specs.Prelude.{Result, Ok, Err}
+use Rattle.numbering.specs.declared.Totals.{Totals}
 use Rattle.record.specs.Record.{Placed, Record, plain, function, limits}
 use Rattle.record.specs.Reader.{Res, got, fault}
 use Rattle.record.specs.Typing.{accept}
 use Rattle.record.specs.Answer.{checked_as, checked}
 use Rattle.record.proofs.Judged.{refused_as}
-use Rattle.numbering.specs.declared.Rewritten.{Rewritten}
-use Rattle.numbering.specs.declared.Rewritten.TheVariants.{Written, Refused, Room}
+use Rattle.numbering.specs.declared.RewriteError.TheVariants.{Refused, Room}
+use Rattle.numbering.specs.Rewrite.{Rewritten, totals}
 use Rattle.numbering.specs.Number.{lvn}
 use Rattle.numbering.specs.Made.{made, rewriting}
 use Rattle.numbering.specs.Rewrite.{rewritten_bytes, rewrite_result, rewrite_output, rewrite, rewrite_leaves}
@@ -36,21 +38,32 @@ only_one (second a b c) = (λ p. a p.0, (λ p. a p.0, λ p. c p.1))
 only_one (third a b c) = (λ p. a p.0, (λ p. a p.0, λ p. b p.0))
 
 -- check's answer, back to what was read
-faulty_read : (s : List ℕ) (w : Faulty s) → accept limits s ≡ fault w.reason w.offset
-faulty_read s w = refused_as s w.reason w.offset w.refused
+faulty_read : (s : List ℕ) (w : Faulty s) → accept limits s ≡ fault w.fault.refusal w.fault.offset
+faulty_read s w = refused_as s w.fault w.refused
 
 not_both : (v : Res (Record Placed)) (k : Refusal) (o : ℕ) (r : Record Placed) (p : ℕ) → v ≡ fault k o → v ≡ got r p → ⊥
 not_both v k o r p e f = clash (cc)
+
+-- an answer has one number of bytes and one of saves
+module _ {E : Type 0} (a : Result Totals E) {n k m j : ℕ} (e : a ≡ Ok (totals n k)) (f : a ≡ Ok (totals m j)) where
+  same_totals : totals n k ≡ totals m j
+  same_totals = cc
+
+  pub same_bytes : n ≡ m
+  same_bytes = ap (λ (t : Totals). t.bytes) same_totals
+
+  pub same_saves : k ≡ j
+  same_saves = ap (λ (t : Totals). t.saves) same_totals
 
 -- a reader gives one value
 pub same_value : {A : Type 0} (v : Res A) (x y : A) (p q : ℕ) → v ≡ got x p → v ≡ got y q → x ≡ y
 same_value v x y p q e f = cc
 
 pub faulty_not_short : (s : List ℕ) (room : ℕ) → Faulty s → ¬ TooShort s room
-faulty_not_short s room w t = not_both (accept limits s) w.reason w.offset t.it t.end (faulty_read s w) t.accepted
+faulty_not_short s room w t = not_both (accept limits s) w.fault.refusal w.fault.offset t.it t.end (faulty_read s w) t.accepted
 
 pub faulty_no_room : (s : List ℕ) (room : ℕ) → Faulty s → ¬ HasRoom s room
-faulty_no_room s room w h = not_both (accept limits s) w.reason w.offset h.it h.end (faulty_read s w) h.accepted
+faulty_no_room s room w h = not_both (accept limits s) w.fault.refusal w.fault.offset h.it h.end (faulty_read s w) h.accepted
 
 pub short_no_room : (s : List ℕ) (room : ℕ) → TooShort s room → ¬ HasRoom s room
 short_no_room s room t h =
@@ -76,39 +89,39 @@ one_way s room = go (accept limits s) refl
     go : (v : Res (Record Placed)) → accept limits s ≡ v → ExactlyOne (Faulty s) (TooShort s room) (HasRoom s room)
     go (got r p) e = accepted r p e (ltb room (length (rewritten_bytes r))) refl
     go (fault k o) e =
-        let w : Faulty s = record { reason = k; offset = o; refused = ap checked_as e } in
+        let w : Faulty s = record { fault = fault_at k o; refused = ap checked_as e } in
         first w (faulty_not_short s room w) (faulty_no_room s room w)
 
 -- ---- what each answers and leaves
 module _ (s out : List ℕ) where
   faulty_ends :
-      (w : Faulty s) → (rewrite s out ≡ Refused w.reason w.offset) × (rewrite_leaves s out ≡ out)
+      (w : Faulty s) → (rewrite s out ≡ Err (Refused w.fault)) × (rewrite_leaves s out ≡ out)
   unfolding rewrite rewrite_leaves rewrite_result rewrite_output
   faulty_ends w = (ap (rewrite_result (length out)) (faulty_read s w), ap (rewrite_output out) (faulty_read s w))
 
   short_ends :
       (w : TooShort s (length out)) →
-      (rewrite s out ≡ Room (length (rewritten_bytes w.it))) × (rewrite_leaves s out ≡ out)
+      (rewrite s out ≡ Err (Room (length (rewritten_bytes w.it)))) × (rewrite_leaves s out ≡ out)
   unfolding rewrite rewrite_leaves rewrite_result rewrite_output
   short_ends w =
       let new = rewritten_bytes w.it in
       let t = lt-ltb (length out) (length new) w.short in (
         ap (rewrite_result (length out)) w.accepted ∙
-            ap (λ b. cond b (Room (length new)) (Written (length new) (length (made (plain w.it))))) t,
+            ap (λ b. cond b (Err (Room (length new))) (Ok (totals (length new) (length (made (plain w.it)))))) t,
         ap (rewrite_output out) w.accepted ∙ ap (λ b. cond b out (new ++ drop (length new) out)) t,
       )
 
   room_ends :
       (w : HasRoom s (length out)) →
-      (rewrite s out ≡ Written (length (rewritten_bytes w.it)) (all_saves (rewriting (plain w.it)).blocks)) ×
+      (rewrite s out ≡ Ok (totals (length (rewritten_bytes w.it)) (all_saves (rewriting (plain w.it)).blocks))) ×
       (rewrite_leaves s out ≡ rewritten_bytes w.it ++ drop (length (rewritten_bytes w.it)) out)
   unfolding rewrite rewrite_leaves rewrite_result rewrite_output
   room_ends w =
       let new = rewritten_bytes w.it in
       let t = le-ltb (length out) (length new) w.holds in (
         ap (rewrite_result (length out)) w.accepted ∙
-            ap (λ b. cond b (Room (length new)) (Written (length new) (length (made (plain w.it))))) t ∙
-            ap (Written (length new)) (made_saves w.it),
+            ap (λ b. cond b (Err (Room (length new))) (Ok (totals (length new) (length (made (plain w.it)))))) t ∙
+            ap (λ k. Ok (totals (length new) k)) (made_saves w.it),
         ap (rewrite_output out) w.accepted ∙ ap (λ b. cond b out (new ++ drop (length new) out)) t,
       )
 

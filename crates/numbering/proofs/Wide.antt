@@ -7,7 +7,7 @@ use native.Mathlib.Omega.{arith}
 use lib.ListN.{length, get_or, length-append, length-map}
 use Rattle.record.specs.declared.NameIx.{NameIx}
 use Rattle.record.specs.declared.Limits.{Limits}
-use Rattle.record.specs.declared.Test.TheVariants.{Passes}
+use Rattle.std.specs.Prelude.{Ok}
 use Rattle.record.specs.Record.{nm, Instr, Block, Record, Function, function, texts, names_of, type_in, limits, wide}
 use Rattle.record.specs.Tests.{saves_test}
 use Rattle.record.specs.Good.{Each, BlockOk, RecordOk}
@@ -22,7 +22,7 @@ use Rattle.numbering.proofs.Homes.{start_homed}
 use Rattle.numbering.proofs.Passes.{LiteralOk, block_passes, block_few}
 use Rattle.numbering.proofs.Names.{names_wider, names_append, input_fresh, made_names_pass, made_names_length}
 
-saves_pass : (n : ℕ) → saves_test true n ≡ Passes
+saves_pass : (n : ℕ) → saves_test true n ≡ Ok tt
 unfolding saves_test
 saves_pass n = refl
 

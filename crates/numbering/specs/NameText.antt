@@ -1,19 +1,22 @@
 -- "Name text": the part of the input or of its rewriting that is the text of a name.
-use Rattle.std.specs.Prelude.{ℕ, ◌-◌, Bool, true, false, cond, ◌&&◌, List, [], ◌∷◌, length, get_or, take, drop, ltb, leb, eqb}
+use Rattle.std.specs.Prelude.{⊤, Result, Ok, Err, ℕ, ◌-◌, Bool, true, false, cond, ◌&&◌, List, [], ◌∷◌, length, get_or, take, drop, ltb, leb, eqb}
 use Rattle.record.specs.declared.Refusal.TheVariants.{Name}
-use Rattle.record.specs.declared.Test.TheVariants.{Passes}
 use Rattle.record.specs.Record.{Placed, Record, limits}
 use Rattle.record.specs.Reader.{Res, got, fault, Reader, give, ◌>>=◌, here, num_at, field, text, times}
 use Rattle.record.specs.Tests.{any}
 use Rattle.record.specs.Typing.{accept}
-use Rattle.record.specs.Answer.{Returned, success, refusal}
-use Rattle.numbering.specs.declared.Named.{Named}
-use Rattle.numbering.specs.declared.Named.TheVariants.{Text, Refused, Mismatch}
+use Rattle.record.specs.Answer.{Returned, success, refusal, fault_at}
+use Rattle.numbering.specs.declared.NameError.{NameError}
+use Rattle.numbering.specs.declared.NameError.TheVariants.{Refused, Mismatch}
+
+-- the answer of name text: the text is handed back, or why none is
+abbrev pub Named : Type 0
+Named = Result ⊤ NameError
 
 unfoldable pub name_answer : Named → Returned
-name_answer Text = success []
-name_answer (Refused k o) = refusal k o
-name_answer Mismatch = record { number = 11; values = 0 ∷ [] }
+name_answer (Ok text) = success []
+name_answer (Err (Refused f)) = refusal f
+name_answer (Err Mismatch) = record { number = 11; values = 0 ∷ [] }
 
 -- a part of one of two lent records
 pub record Part : Type 0 where
@@ -29,8 +32,8 @@ abbrev pub bytes_of : List ℕ → List ℕ → Part → List ℕ
 bytes_of input rewriting p = take p.count (drop p.from (cond p.rewriting rewriting input))
 
 -- "A refusal hands back the empty part at the input's start."
-abbrev pub refused : Named → NameText
-refused k = record { answer = k; part = record { rewriting = false; from = 0; count = 0 } }
+abbrev pub refused : NameError → NameText
+refused e = record { answer = Err e; part = record { rewriting = false; from = 0; count = 0 } }
 
 -- where the text of a name stands, and nothing tested but the end; the names of a record start at 8
 unfoldable pub name_part : Bool → Reader Part
@@ -38,7 +41,7 @@ name_part rewriting = do
   type ← field 1 any
   n ← field 1 any
   from ← here
-  t ← text n (λ t. Passes)
+  t ← text n (λ t. (Ok tt))
   give (record { rewriting = rewriting; from = from; count = n })
 
 abbrev pub parts_of : Bool → List ℕ → Res (List Part)
@@ -51,8 +54,8 @@ nth_part ps i = get_or ps i (record { rewriting = false; from = 0; count = 0 })
 unfoldable pub choose : ℕ → List Part → List Part → NameText
 choose i ps qs =
     cond (ltb i (length qs))
-    (record { answer = Text; part = cond (ltb i (length ps)) (nth_part ps i) (nth_part qs i) })
-    (refused (Refused Name 0))
+    (record { answer = Ok tt; part = cond (ltb i (length ps)) (nth_part ps i) (nth_part qs i) })
+    (refused (Refused (fault_at Name 0)))
 
 -- "or it has under N names"
 unfoldable pub from_parts : ℕ → Res (List Part) → Res (List Part) → NameText
@@ -65,7 +68,7 @@ abbrev pub headed : ℕ → List ℕ → Bool
 headed version s = leb 8 (length s) && (eqb (num_at s 0 4) (length s - 4) && eqb (num_at s 4 1) version)
 
 unfoldable pub with_input : List ℕ → List ℕ → ℕ → Res (Record Placed) → NameText
-with_input input rewriting i (fault k o) = refused (Refused k o)
+with_input input rewriting i (fault k o) = refused (Refused (fault_at k o))
 with_input input rewriting i (got r p) =
     cond (headed r.version rewriting)
     (from_parts i (parts_of false input) (parts_of true rewriting))

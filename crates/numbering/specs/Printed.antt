@@ -1,8 +1,10 @@
 -- The program by example: its two sizes, the buffer that its output is of, and what it prints for each answer of rewrite.
-use Rattle.std.specs.Prelude.{ℕ, ◌≡◌, refl, List, [], ◌∷◌, map, replicate}
+use Rattle.std.specs.Prelude.{Ok, Err, ℕ, ◌≡◌, refl, List, [], ◌∷◌, map, replicate}
 use Rattle.record.specs.Hex.{hex}
 use Rattle.record.specs.declared.Refusal.TheVariants.{Length, Place}
-use Rattle.numbering.specs.declared.Rewritten.TheVariants.{Written, Refused, Room}
+use Rattle.record.specs.Answer.{fault_at}
+use Rattle.numbering.specs.declared.RewriteError.TheVariants.{Refused, Room}
+use Rattle.numbering.specs.Rewrite.{totals}
 use Rattle.numbering.specs.Program.{most_input, buffer_size, shown, output_with, program_output}
 use Rattle.numbering.specs.Opened.{all_of_numbering}
 
@@ -16,7 +18,7 @@ program_buffer s = refl
 
 -- as many bytes as were written; `refused 1 at 0`, `refused 8 at 8191`, `refused 9 at 65537`
 pub shows :
-    map (λ a. shown a (0xA0 ∷ 0xA1 ∷ 0xA2 ∷ [])) (Written 2 1 ∷ Refused Length 0 ∷ Refused Place 8191 ∷ Room 65537 ∷ []) ≡
+    map (λ a. shown a (0xA0 ∷ 0xA1 ∷ 0xA2 ∷ [])) (Ok (totals 2 1) ∷ Err (Refused (fault_at Length 0)) ∷ Err (Refused (fault_at Place 8191)) ∷ Err (Room 65537) ∷ []) ≡
     (0xA0 ∷ 0xA1 ∷ []) ∷
     hex "72 65 66 75 73 65 64 20 31 20 61 74 20 30 0A" ∷
     hex "72 65 66 75 73 65 64 20 38 20 61 74 20 38 31 39 31 0A" ∷

@@ -1,10 +1,8 @@
 -- "Program": what it writes to standard output, as a function of its standard input.
-use Rattle.std.specs.Prelude.{ℕ, cond, List, [], ◌∷◌, ◌++◌, length, get_or, take, replicate, ltb}
+use Rattle.std.specs.Prelude.{Ok, Err, ℕ, cond, List, [], ◌∷◌, ◌++◌, length, get_or, take, replicate, ltb}
 use Rattle.record.specs.Answer.{Returned}
-use Rattle.numbering.specs.declared.Rewritten.{Rewritten}
-use Rattle.numbering.specs.declared.Rewritten.TheVariants.{Written, Refused, Room}
 use Rattle.numbering.specs.Made.{digits}
-use Rattle.numbering.specs.Rewrite.{rewrite_answer, rewrite, rewrite_leaves}
+use Rattle.numbering.specs.Rewrite.{Rewritten, rewrite_answer, rewrite, rewrite_leaves}
 
 -- "10, tested before anything else: over 8,192 bytes"
 abbrev pub most_input : ℕ
@@ -22,9 +20,8 @@ refused_line a =
 
 -- the bytes written, or the line of the refusal
 unfoldable pub shown : Rewritten → List ℕ → List ℕ
-shown (Written n k) out = take n out
-shown (Refused f o) out = refused_line (rewrite_answer (Refused f o))
-shown (Room n) out = refused_line (rewrite_answer (Room n))
+shown (Ok t) out = take t.bytes out
+shown (Err e) out = refused_line (rewrite_answer (Err e))
 
 -- through rewrite, with a buffer
 unfoldable pub output_with : List ℕ → List ℕ → List ℕ

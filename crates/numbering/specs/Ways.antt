@@ -1,16 +1,14 @@
 -- The ways in which rewrite ends: "Check's refusals, then 9 ..", else success; and what each answers and leaves.
 -- That exactly one holds of every input and output is proved in proofs/Ways.antt.
-use Rattle.std.specs.Prelude.{ℕ, ◌+◌, ◌<◌, ◌≤◌, ◌≡◌, List, [], ◌∷◌, ◌++◌, length, drop}
-use Rattle.record.specs.declared.Refusal.{Refusal}
-use Rattle.record.specs.declared.Checked.TheVariants as check
+use Rattle.std.specs.Prelude.{Ok, Err, ℕ, ◌+◌, ◌<◌, ◌≤◌, ◌≡◌, List, [], ◌∷◌, ◌++◌, length, drop}
+use Rattle.record.specs.declared.Fault.{Fault}
 use Rattle.record.specs.Record.{Instr, Placed, Block, Record, plain, limits}
 use Rattle.record.specs.Reader.{got}
 use Rattle.record.specs.Typing.{accept}
 use Rattle.record.specs.Answer.{checked}
-use Rattle.numbering.specs.declared.Rewritten.{Rewritten}
-use Rattle.numbering.specs.declared.Rewritten.TheVariants.{Written, Refused, Room}
+use Rattle.numbering.specs.declared.RewriteError.TheVariants.{Refused, Room}
 use Rattle.numbering.specs.Made.{rewriting}
-use Rattle.numbering.specs.Rewrite.{rewritten_bytes}
+use Rattle.numbering.specs.Rewrite.{Rewritten, totals, rewritten_bytes}
 
 -- "all saves": the saves fields of all blocks, added up
 abbrev pub all_saves : List (Block Instr) → ℕ
@@ -20,9 +18,8 @@ all_saves (b ∷ bs) = b.saves + all_saves bs
 -- ---- what an input and the length of an output can be
 -- "Check's refusals"
 pub record Faulty (s : List ℕ) : Type 0 where
-  pub reason : Refusal
-  pub offset : ℕ
-  pub refused : checked s ≡ check.Refused reason offset
+  pub fault : Fault
+  pub refused : checked s ≡ Err fault
 
 -- "the output is shorter than the bytes needed"
 pub record TooShort (s : List ℕ) (room : ℕ) : Type 0 where
@@ -48,12 +45,12 @@ pub data ExactlyOne (A B C : Type 0) : Type 0 where
 pub record Ends (s out : List ℕ) (answer : Rewritten) (left : List ℕ) : Type 0 where
   pub one_way : ExactlyOne (Faulty s) (TooShort s (length out)) (HasRoom s (length out))
   -- check's reason and offset; "A refusal leaves the output untouched"
-  pub faulty : (w : Faulty s) → (answer ≡ Refused w.reason w.offset) × (left ≡ out)
+  pub faulty : (w : Faulty s) → (answer ≡ Err (Refused w.fault)) × (left ≡ out)
   -- "the bytes needed, which it returns"; the output untouched
-  pub too_short : (w : TooShort s (length out)) → (answer ≡ Room (length (rewritten_bytes w.it))) × (left ≡ out)
+  pub too_short : (w : TooShort s (length out)) → (answer ≡ Err (Room (length (rewritten_bytes w.it)))) × (left ≡ out)
   -- "Success returns bytes written and all saves; bytes beyond are untouched"
   pub has_room :
       (w : HasRoom s (length out)) →
-      (answer ≡ Written (length (rewritten_bytes w.it)) (all_saves (rewriting (plain w.it)).blocks)) ×
+      (answer ≡ Ok (totals (length (rewritten_bytes w.it)) (all_saves (rewriting (plain w.it)).blocks))) ×
       (left ≡ rewritten_bytes w.it ++ drop (length (rewritten_bytes w.it)) out)
   pub same_length : length left ≡ length out

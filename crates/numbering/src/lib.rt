@@ -1,11 +1,16 @@
 // The types that the definitions of local value numbering and the code share.
 #![tactic(auto)]
 
+ghost use Rattle.std.specs.Prelude.{◌≡◌};
+ghost use Rattle.numbering.specs.declared.RewriteError.TheVariants.{Refused as rewrite_refused};
+ghost use Rattle.numbering.specs.declared.FiguresError.TheVariants.{Refused as figures_refused};
+ghost use Rattle.numbering.specs.declared.NameError.TheVariants.{Refused as name_refused};
+
 use arith::{One, Two};
-use record::Refusal;
+use record::Fault;
 
 // A value number. Name indexes are another kind, NameIx of the crate record.
-#[derive(Clone, Copy)]
+#[derive(Clone, Copy, PartialEq, Eq, PartialOrd, Ord, Debug)]
 pub struct ValNum(pub u16);
 
 // A constant that is numbered: an int, or an int literal in a float, which is the value "that literal", by its word; or a bool.
@@ -26,26 +31,54 @@ pub enum Value {
     Two(Two, ValNum, ValNum),
 }
 
-// The answer of rewrite: bytes written and saves; a refusal of check with its offset; the bytes that the output is too small for.
-#[derive(Clone, Copy)]
-pub enum Rewritten {
-    Written(usize, usize),
-    Refused(Refusal, usize),
+// What a rewriting comes to: its bytes and its saves.
+#[derive(Clone, Copy, PartialEq, Eq, Debug)]
+pub struct Totals {
+    pub bytes: usize,
+    pub saves: usize,
+}
+
+// Why rewrite writes nothing: a refusal of check; or the output is too small for so many bytes.
+#[derive(Clone, Copy, PartialEq, Eq, Debug)]
+pub enum RewriteError {
+    Refused(Fault),
     Room(usize),
 }
 
-// The answer of figures: bytes needed and saves; a refusal of check with its offset; fewer places than blocks.
-#[derive(Clone, Copy)]
-pub enum Figured {
-    Counted(usize, usize),
-    Refused(Refusal, usize),
+impl From<Fault> for RewriteError {
+    ghost from_gives = { λ f e. e ≡ rewrite_refused f };
+
+    fn from(f: Fault) -> RewriteError {
+        RewriteError::Refused(f)
+    }
+}
+
+// Why figures counts nothing: a refusal of check; or there are fewer places than blocks.
+#[derive(Clone, Copy, PartialEq, Eq, Debug)]
+pub enum FiguresError {
+    Refused(Fault),
     TooFew,
 }
 
-// The answer of name text: the text is handed back; a refusal with its offset; the rewriting does not belong to the input.
-#[derive(Clone, Copy)]
-pub enum Named {
-    Text,
-    Refused(Refusal, usize),
+impl From<Fault> for FiguresError {
+    ghost from_gives = { λ f e. e ≡ figures_refused f };
+
+    fn from(f: Fault) -> FiguresError {
+        FiguresError::Refused(f)
+    }
+}
+
+// Why name text hands back no text: a refusal; or the rewriting does not belong to the input.
+#[derive(Clone, Copy, PartialEq, Eq, Debug)]
+pub enum NameError {
+    Refused(Fault),
     Mismatch,
+}
+
+impl From<Fault> for NameError {
+    ghost from_gives = { λ f e. e ≡ name_refused f };
+
+    fn from(f: Fault) -> NameError {
+        NameError::Refused(f)
+    }
 }

@@ -25,7 +25,7 @@ use Rattle.record.proofs.Typed.{accept_typed}
 use Rattle.record.proofs.Tests.{and_left, and_right}
 use Rattle.numbering.proofs.Saves.{Dests}
 use Rattle.running.specs.declared.Ending.{Ending}
-use Rattle.running.specs.declared.Ran.TheVariants.{Done}
+use Rattle.running.specs.Engine.{done}
 use Rattle.machine.specs.Machine.{Store, Context, plain_machine, Answer, Mach, tick, assign, happens}
 use Rattle.running.specs.Steps.{steps, start}
 use Rattle.running.specs.House.{stored, of_type, of_types, holding, values_from, store_bytes}
@@ -189,7 +189,7 @@ left_continues s store list limit bytes g pass =
 pub final_store_reads_back :
     (s store list : List ℕ) (limit : ℕ) (events left : List ℕ) (e l k : ℕ) (how : Ending) →
     Bytes s →
-    (h : engine s store list limit events left ≡ Done e l k how) →
+    (h : engine s store list limit events left ≡ done e l k how) →
     let m = engine_is_machine s store list limit events left e l k how h in
     Continues (function (plain m.given.rec)).types m.mach.store
 final_store_reads_back s store list limit events left e l k how bytes h =

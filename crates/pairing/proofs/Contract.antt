@@ -8,7 +8,8 @@ use native.Mathlib.Omega.{arith}
 use lib.ListN.{length, take, drop, length-take, take-append-drop}
 use lib.Seq.{take-append_seam, drop-append_seam}
 use Rattle.arith.proofs.Clash.{clash}
-use Rattle.record.specs.declared.Checked.TheVariants as check
+use Rattle.std.specs.Prelude.{Ok, Err}
+use Rattle.record.specs.declared.Fault.{Fault}
 use Rattle.record.specs.Record.{Bytes, Placed, Record, plain, function, limits, wide}
 use Rattle.record.specs.Reader.{got}
 use Rattle.record.specs.Read.{read}
@@ -17,10 +18,11 @@ use Rattle.record.specs.Write.{bytes}
 use Rattle.record.specs.Answer.{checked}
 use Rattle.record.proofs.Gives.{bytes_take}
 use Rattle.record.proofs.ReadFrom.{read_from, read_ends}
-use Rattle.numbering.specs.declared.Rewritten.{Rewritten}
-use Rattle.numbering.specs.declared.Rewritten.TheVariants.{Written, Refused, Room}
-use Rattle.numbering.specs.declared.Figured.{Figured}
-use Rattle.numbering.specs.declared.Figured.TheVariants as figured
+use Rattle.numbering.specs.declared.RewriteError.TheVariants.{Refused, Room}
+use Rattle.numbering.specs.declared.FiguresError.TheVariants as figured
+use Rattle.numbering.specs.Rewrite.{Rewritten, totals}
+use Rattle.numbering.specs.Figures.{Figured}
+use Rattle.numbering.proofs.Ways.{same_bytes, same_saves}
 use Rattle.numbering.specs.Made.{rewriting}
 use Rattle.numbering.specs.Rewrite.{rewritten_bytes, rewrite, rewrite_leaves}
 use Rattle.numbering.specs.Figures.{figures, figures_leaves}
@@ -32,36 +34,29 @@ use Rattle.pairing.specs.Contract.{Accepted, WrittenAlike, DemandsMet, FiguresMe
 use Rattle.pairing.proofs.Theorems.{few_saves, reads_as_rewriting, bytes_run_alike, program_has_room, figures_are_rewrites, figures_refused_as_checked, refused_for_few_places, places_stay, refusals_write_no_place}
 
 -- only an output with room is written
-wrote : {s out left : List ℕ} {answer : Rewritten} → Ends s out answer left → (n k : ℕ) → answer ≡ Written n k → HasRoom s (length out)
+wrote : {s out left : List ℕ} {answer : Rewritten} → Ends s out answer left → (n k : ℕ) → answer ≡ Ok (totals n k) → HasRoom s (length out)
 wrote {s} {out} {answer = answer} d n k e = go d.one_way
   where
     go : ExactlyOne (Faulty s) (TooShort s (length out)) (HasRoom s (length out)) → HasRoom s (length out)
     go (first w b c) =
-        let r : answer ≡ Refused w.reason w.offset = (d.faulty w).0 in
+        let r : answer ≡ Err (Refused w.fault) = (d.faulty w).0 in
         clash (cc)
     go (second a w c) =
-        let r : answer ≡ Room (length (rewritten_bytes w.it)) = (d.too_short w).0 in
+        let r : answer ≡ Err (Room (length (rewritten_bytes w.it))) = (d.too_short w).0 in
         clash (cc)
     go (third a b w) = w
 
-same_bytes_written : (a : Rewritten) (n k m j : ℕ) → a ≡ Written n k → a ≡ Written m j → n ≡ m
-same_bytes_written a n k m j e f = cc
-
-same_saves : (a : Rewritten) (n k m j : ℕ) → a ≡ Written n k → a ≡ Written m j → k ≡ j
-same_saves a n k m j e f = cc
-
--- Where the answer is Written, that way of ending gives the rewriting and the runs.
+-- Where the answer is Ok, that way of ending gives the rewriting and the runs.
 pub written_run_alike :
     (s out out' : List ℕ) (answer : Rewritten) → Bytes s → Ends s out answer out' →
-    (n k : ℕ) → answer ≡ Written n k → WrittenAlike s out out' n k
+    (n k : ℕ) → answer ≡ Ok (totals n k) → WrittenAlike s out out' n k
 written_run_alike s out out' answer b d n k e =
     let w = wrote d n k e in
     let it = w.it in
     let new = rewritten_bytes it in
     let a : Accepted s it = record { bytes = b; end = w.end; accepted = w.accepted } in
     let back = reads_as_rewriting s it a in
-    let saves = all_saves (rewriting (plain it)).blocks in
-    let many : n ≡ length new = same_bytes_written answer n k (length new) saves e (d.has_room w).0 in
+    let many : n ≡ length new = same_bytes answer e (d.has_room w).0 in
     let left : out' ≡ new ++ drop n out = (d.has_room w).1 ∙ ap (λ m. new ++ drop m out) (sym many) in
     let begins : take n out' ≡ new = (λ i. take (many i) (left i)) ∙ take-append_seam new (drop n out) in
     record {
@@ -70,7 +65,7 @@ written_run_alike s out out' answer b d n k e =
       output = back.back;
       reads = (λ i. read wide (begins i) 0) ∙ back.reads ∙ ap (got back.back) (sym many);
       rewritten = back.same;
-      saves = same_saves answer n k (length new) saves e (d.has_room w).0 ∙ ap (λ r. all_saves r.blocks) (sym back.same);
+      saves = same_saves answer e (d.has_room w).0 ∙ ap (λ r. all_saves r.blocks) (sym back.same);
       alike = bytes_run_alike s it a;
       bounded = subst (SavesBounded (function (plain it))) (sym back.rewritten) (few_saves s it a);
       beyond = (λ i. drop (many i) (left i)) ∙ drop-append_seam new (drop n out);
@@ -79,7 +74,7 @@ written_run_alike s out out' answer b d n k e =
 -- Nothing else is told so: bytes that WrittenAlike is said of, in an output of the same length, are what rewrite leaves, and its answer.
 pub written_alone :
     (s out out' : List ℕ) (n k : ℕ) → Bytes out' → length out' ≡ length out → WrittenAlike s out out' n k →
-    (Written n k ≡ rewrite s out) × (out' ≡ rewrite_leaves s out)
+    (Ok (totals n k) ≡ rewrite s out) × (out' ≡ rewrite_leaves s out)
 unfolding rewritten_bytes
 written_alone s out out' n k b l a =
     let new = rewritten_bytes a.input in
@@ -96,7 +91,7 @@ written_alone s out out' n k b l a =
       holds = omega (arith, many, ends, l, length-take n out');
     } in
     let e = (three_ways s out).has_room w in (
-      (λ i. Written (many i) (saves i)) ∙ sym e.0,
+      (λ i. Ok (totals (many i) (saves i))) ∙ sym e.0,
       sym (take-append-drop n out') ∙ (λ i. same i ++ a.beyond i) ∙ ap (λ m. new ++ drop m out) many ∙ sym e.1,
     )
 
@@ -122,7 +117,7 @@ RunAs r q = RunAlike (function (plain r)) (function (plain q)) × SavesBounded (
 -- So whoever reads the input, and the first n bytes of the output with the wider limits, has two such records.
 pub readers_run_alike :
     (s out out' : List ℕ) (answer : Rewritten) → DemandsMet s out out' answer →
-    (n k : ℕ) → answer ≡ Written n k →
+    (n k : ℕ) → answer ≡ Ok (totals n k) →
     (r q : Record Placed) (p m : ℕ) → accept limits s ≡ got r p → read wide (take n out') 0 ≡ got q m → RunAs r q
 readers_run_alike s out out' answer d n k e r q p m f g =
     let a = d.written n k e in
@@ -138,9 +133,9 @@ contract_meets_promise s each each' answer e f =
       answers = e;
       leaves = f;
       counted = λ n k a. figures_are_rewrites s each n k (sym e ∙ a);
-      refused = λ k o.
-          subst (λ a. (a ≡ figured.Refused k o) ↔ (checked s ≡ check.Refused k o)) (sym e) (figures_refused_as_checked s each k o);
-      too_few = subst (λ a. (a ≡ figured.TooFew) ↔ FewPlaces s (length each)) (sym e) (refused_for_few_places s each);
+      refused = λ f.
+          subst (λ a. (a ≡ Err (figured.Refused f)) ↔ (checked s ≡ Err f)) (sym e) (figures_refused_as_checked s each f);
+      too_few = subst (λ a. (a ≡ Err figured.TooFew) ↔ FewPlaces s (length each)) (sym e) (refused_for_few_places s each);
       untouched = λ h. f ∙ refusals_write_no_place s each (λ n k a. h n k (e ∙ a));
       same_length = ap length f ∙ places_stay s each;
     }

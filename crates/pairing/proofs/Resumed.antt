@@ -17,7 +17,9 @@ use Rattle.record.specs.Reader.{got}
 use Rattle.record.specs.Write.{join}
 use Rattle.record.proofs.Tests.{and_left, and_right}
 use Rattle.running.specs.declared.Ending.{Ending}
-use Rattle.running.specs.declared.Ran.TheVariants.{Done, Unfit}
+use Rattle.running.specs.declared.RunError.TheVariants.{Unfit}
+use Rattle.std.specs.Prelude.{Ok, Err}
+use Rattle.running.specs.Engine.{done}
 use Rattle.machine.specs.Machine.{Store, Context, plain_machine, Answer, Event, Mach}
 use Rattle.running.specs.Steps.{Config, land, steps, start, shifted}
 use Rattle.running.specs.House.{of_types, holding, values_from, store_bytes, answers_bytes, event_bytes, events_bytes}
@@ -146,7 +148,7 @@ ran_done :
     (room more : ℕ) (o : Outcome) (w N : ℕ) (c : Config) →
     o ≡ ran w N c →
     too_short room more (length (events_left w c)) (length (store_left N c)) ≡ false →
-    result room more o ≡ Done (length (events_left w c)) (length (store_left N c)) c.mach.steps (ending_of c.stand)
+    result room more o ≡ done (length (events_left w c)) (length (store_left N c)) c.mach.steps (ending_of c.stand)
 unfolding result
 ran_done room more o w N c p q = rw (p, q)
 
@@ -156,7 +158,7 @@ record Both (es : List Event) (k w e : ℕ) {room₂ more₂ : ℕ} {o₂ : Outc
   comes : o₃ ≡ ran t.width t.names (shifted es k t.config)
   events : events_left t.width (shifted es k t.config) ≡ events_bytes w es ++ events_left t.width t.config
   enough : too_short room more (length (events_left t.width (shifted es k t.config))) (length (store_left t.names t.config)) ≡ false
-  answer : result room more o₃ ≡ Done (e + e₂) l₂ (k + k₂) how₂
+  answer : result room more o₃ ≡ done (e + e₂) l₂ (k + k₂) how₂
 
 two_as_one :
     (es : List Event) (k w e : ℕ) → length (events_bytes w es) ≡ e →
@@ -180,7 +182,7 @@ two_as_one es k w e size room₂ more₂ o₂ e₂ l₂ k₂ how₂ t width o₃
       enough = fits;
       answer =
           ran_done room more o₃ t.width t.names (shifted es k d) c fits
-          ∙ (λ i. Done (n i) (t.store_count i) (k + t.steps_count i) (t.ending i));
+          ∙ (λ i. done (n i) (t.store_count i) (k + t.steps_count i) (t.ending i));
     }
 
 -- one call over both limits, by a first and a second call: the events of both, the store of the second, the steps of both, and how the
@@ -189,7 +191,7 @@ pub record Resumes
     (s store list : List ℕ) (limit : ℕ) (events left : List ℕ) (e k : ℕ)
     (store₂ list₂ : List ℕ) (j : ℕ) (events₂ left₂ : List ℕ) (e₂ l₂ k₂ : ℕ) (how₂ : Ending)
     (events₃ left₃ : List ℕ) : Type 0 where
-  pub answer : engine s store list (limit + j) events₃ left₃ ≡ Done (e + e₂) l₂ (k + k₂) how₂
+  pub answer : engine s store list (limit + j) events₃ left₃ ≡ done (e + e₂) l₂ (k + k₂) how₂
   pub events_are :
       engine_events s store list (limit + j) events₃ left₃ ≡
       written (take e (engine_events s store list limit events left) ++ take e₂ (engine_events s store₂ list₂ j events₂ left₂)) events₃
@@ -198,7 +200,7 @@ pub record Resumes
 
 module _
     (s store list : List ℕ) (limit : ℕ) (events left : List ℕ) (e l k : ℕ) (how : Ending)
-    (first : engine s store list limit events left ≡ Done e l k how) where
+    (first : engine s store list limit events left ≡ done e l k how) where
   abbrev m : IsMachine s store list limit events left e l k how
   m = engine_is_machine s store list limit events left e l k how first
 
@@ -249,7 +251,7 @@ module _
 
     module _ (events₂ left₂ events₃ left₃ : List ℕ) where
       -- 13 for the rest exactly where for the whole
-      pub resumes_unfit : (engine s store_again list_again j events₂ left₂ ≡ Unfit) ↔ (engine s store list (limit + j) events₃ left₃ ≡ Unfit)
+      pub resumes_unfit : (engine s store_again list_again j events₂ left₂ ≡ Err Unfit) ↔ (engine s store list (limit + j) events₃ left₃ ≡ Err Unfit)
       unfolding engine result
       resumes_unfit = (
         λ h.
@@ -260,7 +262,7 @@ module _
             (behind_unfit es k second_outcome (sym one_outcome ∙ result_unfit (length events₃) (length left₃) (outcome limits s store list (limit + j)) h)),
       )
 
-      module _ (e₂ l₂ k₂ : ℕ) (how₂ : Ending) (second : engine s store_again list_again j events₂ left₂ ≡ Done e₂ l₂ k₂ how₂) where
+      module _ (e₂ l₂ k₂ : ℕ) (how₂ : Ending) (second : engine s store_again list_again j events₂ left₂ ≡ done e₂ l₂ k₂ how₂) where
         pub resumes :
             e + e₂ ≤ length events₃ → l₂ ≤ length left₃ →
             Resumes s store list limit events left e k store_again list_again j events₂ left₂ e₂ l₂ k₂ how₂ events₃ left₃

@@ -16,7 +16,7 @@ use Rattle.arith.specs.Value.{tint, tbool, tfloat, tchar, is_pointer, Val, int, 
 use Rattle.arith.specs.Operation.{one, two}
 use Rattle.arith.specs.Code.{code1, code2}
 use Rattle.record.specs.declared.NameIx.{NameIx}
-use Rattle.record.specs.declared.Test.TheVariants.{Passes}
+use Rattle.std.specs.Prelude.{Ok}
 use Rattle.record.specs.Record.{nm, Instr, arg}
 use Rattle.record.specs.Shape.{row_of}
 use Rattle.record.specs.Text.{same_bytes}
@@ -96,7 +96,7 @@ has_type t v e r = rw (eq-eqb (type_of v) t e, r) tt
 pub constant_typed :
     (t kind bits : ℕ) →
     kind ≤ 3 →
-    literal_test kind bits ≡ Passes →
+    literal_test kind bits ≡ Ok tt →
     bits < W →
     literal_fits kind t ≡ true →
     HasType t (value_of t kind bits)

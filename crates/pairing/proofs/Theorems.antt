@@ -21,7 +21,8 @@ use Rattle.arith.proofs.Signed.{word_of, div_w_wraps}
 use Rattle.arith.proofs.Operation.{divide_stops}
 use Rattle.record.specs.declared.NameIx.{NameIx}
 use Rattle.record.specs.declared.Refusal.{Refusal}
-use Rattle.record.specs.declared.Checked.TheVariants as check
+use Rattle.std.specs.Prelude.{Ok, Err}
+use Rattle.record.specs.declared.Fault.{Fault}
 use Rattle.record.specs.Record.{nm, Bytes, Instr, Placed, Block, Name, Record, Function, plain, function, texts, names_of, type_in, arg, limits, wide}
 use Rattle.record.specs.Reader.{got}
 use Rattle.record.specs.Read.{read}
@@ -40,9 +41,9 @@ use Rattle.numbering.specs.Simplify.{simplify}
 use Rattle.numbering.specs.Shared.{behind, Exchanged, SharesNumber, NewNumber}
 use Rattle.numbering.specs.Decimal.{Decimal}
 use Rattle.numbering.specs.Made.{digits, made_name, made_names, made, rewriting}
-use Rattle.numbering.specs.declared.Rewritten.{Rewritten}
-use Rattle.numbering.specs.declared.Rewritten.TheVariants.{Written, Room}
-use Rattle.numbering.specs.declared.Figured.TheVariants.{Counted, Refused, TooFew}
+use Rattle.numbering.specs.declared.RewriteError.TheVariants.{Room}
+use Rattle.numbering.specs.declared.FiguresError.TheVariants.{Refused, TooFew}
+use Rattle.numbering.specs.Rewrite.{Rewritten, totals}
 use Rattle.numbering.specs.Rewrite.{rewritten_bytes, rewrite, rewrite_leaves}
 use Rattle.numbering.specs.Figures.{figures, figures_leaves}
 use Rattle.numbering.specs.Ways.{all_saves, Ends}
@@ -136,7 +137,7 @@ buffer_is_enough s r a l =
 
 -- So the program never refuses an input for want of room.
 pub program_has_room :
-    (s out : List ℕ) → Bytes s → length s ≤ most_input → buffer_size ≤ length out → (m : ℕ) → rewrite s out ≡ Room m → ⊥
+    (s out : List ℕ) → Bytes s → length s ≤ most_input → buffer_size ≤ length out → (m : ℕ) → rewrite s out ≡ Err (Room m) → ⊥
 program_has_room = buffer_suffices
 
 -- ---- the bytes of the rewriting
@@ -233,37 +234,37 @@ saves_fields f = from 0 f.blocks
 -- ---- figures ahead of filing (document 02, Point 1)
 -- "these are the figures that rewrite would give": where they are n bytes and k saves, rewrite writes n bytes with k saves into every output
 -- that holds n, and asks for n in every other; and the places hold, for each block that is then filed, its n, and beyond what they held.
-pub figures_are_rewrites : (s each : List ℕ) (n k : ℕ) → figures s each ≡ Counted n k → Foretold s each n k
+pub figures_are_rewrites : (s each : List ℕ) (n k : ℕ) → figures s each ≡ Ok (totals n k) → Foretold s each n k
 figures_are_rewrites = figures_foretell
 
 -- No other bytes and saves foretell so.
-pub figures_alone : (s each : List ℕ) (n k : ℕ) → Foretold s each n k → figures s each ≡ Counted n k
+pub figures_alone : (s each : List ℕ) (n k : ℕ) → Foretold s each n k → figures s each ≡ Ok (totals n k)
 figures_alone = foretold_alone
 
 -- Whatever rewrite writes, into any output, was foretold, unless there were too few places.
 pub written_as_foretold :
-    (s each out : List ℕ) (n k : ℕ) → rewrite s out ≡ Written n k → (figures s each ≡ Counted n k) ⊎ (figures s each ≡ TooFew)
+    (s each out : List ℕ) (n k : ℕ) → rewrite s out ≡ Ok (totals n k) → (figures s each ≡ Ok (totals n k)) ⊎ (figures s each ≡ Err TooFew)
 written_as_foretold = written_was_foretold
 
 -- So were the bytes that it asks for.
 pub room_as_foretold :
-    (s each out : List ℕ) (n : ℕ) → rewrite s out ≡ Room n → ((k : ℕ) × (figures s each ≡ Counted n k)) ⊎ (figures s each ≡ TooFew)
+    (s each out : List ℕ) (n : ℕ) → rewrite s out ≡ Err (Room n) → ((k : ℕ) × (figures s each ≡ Ok (totals n k))) ⊎ (figures s each ≡ Err TooFew)
 room_as_foretold = room_was_foretold
 
 -- The figures are refused as check refuses, with its reason and offset, however many places there are.
 pub figures_refused_as_checked :
-    (s each : List ℕ) (k : Refusal) (o : ℕ) → (figures s each ≡ Refused k o) ↔ (checked s ≡ check.Refused k o)
+    (s each : List ℕ) (f : Fault) → (figures s each ≡ Err (Refused f)) ↔ (checked s ≡ Err f)
 figures_refused_as_checked = figures_refuse
 
 -- 12: exactly where check accepts and there are fewer places than blocks.
-pub refused_for_few_places : (s each : List ℕ) → (figures s each ≡ TooFew) ↔ FewPlaces s (length each)
+pub refused_for_few_places : (s each : List ℕ) → (figures s each ≡ Err TooFew) ↔ FewPlaces s (length each)
 refused_for_few_places = too_few
 
 -- The places stay as many as they were; a refusal writes none of them.
 pub places_stay : (s each : List ℕ) → length (figures_leaves s each) ≡ length each
 places_stay = figures_keep_length
 
-pub refusals_write_no_place : (s each : List ℕ) → ((n k : ℕ) → figures s each ≢ Counted n k) → figures_leaves s each ≡ each
+pub refusals_write_no_place : (s each : List ℕ) → ((n k : ℕ) → figures s each ≢ Ok (totals n k)) → figures_leaves s each ≡ each
 refusals_write_no_place = figures_untouched
 
 -- ---- the greater is the less, swapped (document 02, Point 2)

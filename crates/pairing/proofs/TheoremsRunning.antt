@@ -10,7 +10,8 @@ use mathlib.Core.Option.{Option}
 use lib.ListN.{length, drop}
 use Rattle.arith.specs.Value.{Val}
 use Rattle.record.specs.declared.Refusal.{Refusal}
-use Rattle.record.specs.declared.Checked.TheVariants as check
+use Rattle.std.specs.Prelude.{Ok, Err}
+use Rattle.record.specs.declared.Fault.{Fault}
 use Rattle.record.specs.Record.{Bytes, Placed, Record, Function, plain, function, limits, id_bytes}
 use Rattle.record.specs.Reader.{got}
 use Rattle.record.specs.Typing.{accept}
@@ -19,7 +20,8 @@ use Rattle.record.proofs.Judged.{refused_as}
 use Rattle.machine.specs.Machine.{Store, plain_machine, Answer, Stop, at_halt, stopped, run}
 use Rattle.running.specs.declared.Ending.{Ending}
 use Rattle.running.specs.declared.Ending.TheVariants.{Limit}
-use Rattle.running.specs.declared.Ran.TheVariants.{Done, Refused, Unfit, Room}
+use Rattle.running.specs.declared.RunError.TheVariants.{Refused, Unfit, Room}
+use Rattle.running.specs.Engine.{done}
 use Rattle.running.specs.Steps.{over, Config, land, steps, start, config_of, shifted}
 use Rattle.running.specs.House.{holding, store_bytes, events_bytes}
 use Rattle.running.specs.Engine.{lets_pass, ending_of, too_short, engine, engine_events, engine_store}
@@ -56,7 +58,7 @@ module _ (s store list : List ℕ) (limit : ℕ) (events left : List ℕ) where
   -- and store at the front of what was lent.
   pub does_what_the_machine_does :
       (e l k : ℕ) (how : Ending) →
-      engine s store list limit events left ≡ Done e l k how → IsMachine s store list limit events left e l k how
+      engine s store list limit events left ≡ done e l k how → IsMachine s store list limit events left e l k how
   does_what_the_machine_does = engine_is_machine s store list limit events left
 
   -- "for every store and list that 13 lets pass": a call is done for each of them, if enough was lent.
@@ -65,14 +67,14 @@ module _ (s store list : List ℕ) (limit : ℕ) (events left : List ℕ) where
       lets_pass limit (function (plain g.rec)) g.values g.told ≡ true →
       too_short (length events) (length left) (events_size s store list limit events left g) (store_size s store list limit events left g) ≡ false →
       engine s store list limit events left ≡
-      Done (events_size s store list limit events left g) (store_size s store list limit events left g)
+      done (events_size s store list limit events left g) (store_size s store list limit events left g)
       (end_config s store list limit events left g).mach.steps (ending_of (end_config s store list limit events left g).stand)
   done_for_all_that_pass = engine_done s store list limit events left
 
   -- "It says that the limit is spent exactly when the machine has not ended within that many steps.": when each number of blocks that is
   -- stopped has more steps than the limit.
   pub limit_is_exact :
-      (e l k : ℕ) (how : Ending) (h : engine s store list limit events left ≡ Done e l k how) →
+      (e l k : ℕ) (how : Ending) (h : engine s store list limit events left ≡ done e l k how) →
       let m = engine_is_machine s store list limit events left e l k how h in
       let f = function (plain m.given.rec) in
       (how ≡ Limit) ↔
@@ -83,7 +85,7 @@ module _ (s store list : List ℕ) (limit : ℕ) (events left : List ℕ) where
       limit_said (function (plain m.given.rec)) (holding m.given.values) m.given.told limit how m.mach m.ended
 
   -- Where it is spent, the steps are the limit, and events and store are those that the machine has then.
-  pub limit_is_counted : (e l k : ℕ) → engine s store list limit events left ≡ Done e l k Limit → k ≡ limit
+  pub limit_is_counted : (e l k : ℕ) → engine s store list limit events left ≡ done e l k Limit → k ≡ limit
   limit_is_counted e l k h =
       let m = engine_is_machine s store list limit events left e l k Limit h in
       sym m.steps_count
@@ -92,33 +94,33 @@ module _ (s store list : List ℕ) (limit : ℕ) (events left : List ℕ) where
   -- ---- refusals
   -- "after check's refusals": it is refused as check refuses, with its reason and offset, whatever store and answers are.
   pub refused_as_checked :
-      (k : Refusal) (o : ℕ) → (engine s store list limit events left ≡ Refused k o) ↔ (checked s ≡ check.Refused k o)
+      (f : Fault) → (engine s store list limit events left ≡ Err (Refused f)) ↔ (checked s ≡ Err f)
   unfolding checked
-  refused_as_checked k o =
-      let h = refused_exactly s store list limit events left k o in
-      (λ e. ap checked_as (h.0 e), λ e. h.1 (refused_as s k o e))
+  refused_as_checked f =
+      let h = refused_exactly s store list limit events left f in
+      (λ e. ap checked_as (h.0 e), λ e. h.1 (refused_as s f e))
 
   -- 13: exactly where store or answers do not read, a stored value is not of its name's type, or one of the first `limit` steps takes an
   -- answer that does not fit its instruction.
   pub refused_as_unfit :
       (r : Record Placed) (p : ℕ) → accept limits s ≡ got r p →
-      (engine s store list limit events left ≡ Unfit) ↔ WhyUnfit s store list limit r
+      (engine s store list limit events left ≡ Err Unfit) ↔ WhyUnfit s store list limit r
   refused_as_unfit r p accepted = unfit_exactly s store list limit r events left p accepted
 
   -- 14: exactly where 13 lets pass, and the events or the store need more bytes than were lent; it says the bytes of both.
-  pub refused_for_room : (e l : ℕ) → (engine s store list limit events left ≡ Room e l) ↔ TooShort s store list limit events left e l
+  pub refused_for_room : (e l : ℕ) → (engine s store list limit events left ≡ Err (Room e l)) ↔ TooShort s store list limit events left e l
   refused_for_room = room_exactly s store list limit events left
 
   -- ---- what was lent
   -- "Both write nothing.": each call that is not done leaves both lent parts as they were.
   pub refusals_leave_all :
-      ((e l k : ℕ) (how : Ending) → engine s store list limit events left ≢ Done e l k how) →
+      ((e l k : ℕ) (how : Ending) → engine s store list limit events left ≢ done e l k how) →
       (engine_events s store list limit events left ≡ events) × (engine_store s store list limit events left ≡ left)
   refusals_leave_all = not_done_untouched s store list limit events left
 
   -- "Otherwise lent bytes beyond the events and the store are untouched."
   pub bytes_beyond_stay :
-      (e l k : ℕ) (how : Ending) → engine s store list limit events left ≡ Done e l k how →
+      (e l k : ℕ) (how : Ending) → engine s store list limit events left ≡ done e l k how →
       (drop e (engine_events s store list limit events left) ≡ drop e events) ×
       (drop l (engine_store s store list limit events left) ≡ drop l left)
   bytes_beyond_stay = beyond_untouched s store list limit events left
@@ -161,7 +163,7 @@ room_for_store = store_most
 -- The final store reads, as the values that the machine has, as a store of the same record whose values have their names' types.
 pub final_store_is_a_store :
     (s store list : List ℕ) (limit : ℕ) (events left : List ℕ) (e l k : ℕ) (how : Ending) → Bytes s →
-    (h : engine s store list limit events left ≡ Done e l k how) →
+    (h : engine s store list limit events left ≡ done e l k how) →
     let m = engine_is_machine s store list limit events left e l k how h in
     Continues (function (plain m.given.rec)).types m.mach.store
 final_store_is_a_store = final_store_reads_back
@@ -185,7 +187,7 @@ run_goes_on f = resumed (plain_machine f) f.blocks
 -- Of the engine, with the store that a first call wrote and the rest of its answers, where it was left as block 0 begins:
 module _
     (s store list : List ℕ) (limit : ℕ) (events left : List ℕ) (e l k : ℕ) (how : Ending)
-    (first : engine s store list limit events left ≡ Done e l k how) (bytes : Bytes s) (told : Bytes list)
+    (first : engine s store list limit events left ≡ done e l k how) (bytes : Bytes s) (told : Bytes list)
     (stands :
     (stopped_at s store list limit events left e l k how first).stand ≡
     land (function (plain (given_first s store list limit events left e l k how first).rec)).blocks 0)
@@ -199,11 +201,11 @@ module _
   -- A second call with limit j says and leaves what is still to come of one call with limit + j: that one has the events of both, the
   -- final store of the second, the steps of both, and ended as the second did.
   pub engine_goes_on :
-      (e₂ l₂ k₂ : ℕ) (how₂ : Ending) → engine s store₂ list₂ j events₂ left₂ ≡ Done e₂ l₂ k₂ how₂ →
+      (e₂ l₂ k₂ : ℕ) (how₂ : Ending) → engine s store₂ list₂ j events₂ left₂ ≡ done e₂ l₂ k₂ how₂ →
       e + e₂ ≤ length events₃ → l₂ ≤ length left₃ →
       Resumes s store list limit events left e k store₂ list₂ j events₂ left₂ e₂ l₂ k₂ how₂ events₃ left₃
   engine_goes_on = resumes s store list limit events left e l k how first bytes told stands j events₂ left₂ events₃ left₃
 
   -- The second is 13 exactly where the one is.
-  pub engine_goes_on_unfit : (engine s store₂ list₂ j events₂ left₂ ≡ Unfit) ↔ (engine s store list (limit + j) events₃ left₃ ≡ Unfit)
+  pub engine_goes_on_unfit : (engine s store₂ list₂ j events₂ left₂ ≡ Err Unfit) ↔ (engine s store list (limit + j) events₃ left₃ ≡ Err Unfit)
   engine_goes_on_unfit = resumes_unfit s store list limit events left e l k how first bytes told stands j events₂ left₂ events₃ left₃

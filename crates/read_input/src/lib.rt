@@ -16,12 +16,8 @@ fn read_some<R: Read>(reader: &mut R, buf: &mut [u8]) -> io::Result<usize>
 {
     for _ in 0..u64::MAX {
         match reader.read(buf) {
-            Ok(n) => return Ok(n),
-            Err(e) => {
-                if e.kind() != ErrorKind::Interrupted {
-                    return Err(e);
-                }
-            }
+            Err(e) if e.kind() == ErrorKind::Interrupted => {}
+            answer => return answer,
         }
     }
     Err(ErrorKind::Interrupted.into())
@@ -35,6 +31,7 @@ pub fn read_full<R: Read>(reader: &mut R, buf: &mut [u8]) -> io::Result<usize>
     ensures end { IfOk result (λ n. n < length buf.new → IsAtEnd (R.remaining reader.new)) }
 {
     let mut done = 0;
+    // `read_exact` would be shorter, and does not say how many bytes come before the end.
     while done < buf.len() {
         let n = read_some(reader, &mut buf[done..])?;
         if n == 0 {

@@ -22,7 +22,8 @@ use Rattle.record.proofs.Longest.{args_few}
 use Rattle.codes.specs.Op.{op_of}
 use Rattle.codes.proofs.Op.{op_code}
 use Rattle.read_instrs.specs.declared.Read.{Read}
-use Rattle.read_instrs.specs.Again.{lit_from, Readable, OperandsAgain, ReadAgain}
+use Rattle.read_instrs.specs.declared.Parts.{Parts}
+use Rattle.read_instrs.specs.Again.{lit_from, Readable, PartsAt, OperandsAgain, ReadAgain}
 use Rattle.read_shapes.proofs.Bounds.{shape_most}
 use Rattle.read_instrs.proofs.Rows.{items_indexes}
 
@@ -49,126 +50,114 @@ module _ (s : List ℕ) (p : ℕ) where
   count_by true k h = rw (length_items (index_from s) two_on k p) at h
   count_by false k h = omega arith
 
--- ---- the places of the parts, as the code finds them, and the parts
-pub record Counted (sh : Shape) (s : List ℕ) (at lit count n : ℕ) : Type 0 where
-  pub lit_is : lit ≡ cond sh.dest (at + 2) at
-  pub count_is : count ≡ cond sh.literal (lit + 9) lit
-  pub n_is : n ≡ count_from sh s count
-
-pub record Places (sh : Shape) (s : List ℕ) (at lit count n callee blocks m : ℕ) : Type 0 where
-  pub counted : Counted sh s at lit count n
-  pub callee_is : callee ≡ cond (not sh.literal) (count + (1 + 2 * n)) count
-  pub blocks_is : blocks ≡ cond sh.callee (callee + 2) callee
-  pub m_is : m ≡ targets sh n
-
-module _ {sh : Shape} {s : List ℕ} {at lit count n : ℕ} (counted : Counted sh s at lit count n) where
-  lit_there : lit ≡ lit_at sh s at
+-- ---- the places of the parts, as the code finds them
+module _ (sh : Shape) (s : List ℕ) (at : ℕ) where
+  pub literal_there : {lit : ℕ} → lit ≡ cond sh.dest (at + 2) at → lit ≡ lit_at sh s at
   unfolding lit_at
-  lit_there = counted.lit_is
+  literal_there e = e
 
-  count_there : count ≡ count_at sh s at
+  pub count_there : {lit count : ℕ} → lit ≡ lit_at sh s at → count ≡ cond sh.literal (lit + 9) lit → count ≡ count_at sh s at
   unfolding count_at
-  count_there =
-      counted.count_is ∙ cond_then sh.literal (lit + 9) (lit + 1 + 8) lit (λ e. omega arith) ∙
-      ap (λ (p : ℕ). cond sh.literal (p + 1 + 8) p) lit_there
+  count_there {lit} l e =
+      e ∙ cond_then sh.literal (lit + 9) (lit + 1 + 8) lit (λ f. omega arith) ∙ ap (λ (p : ℕ). cond sh.literal (p + 1 + 8) p) l
 
-  pub count_few : (x code : ℕ) → Readable (operands_from sh s at x code) → n ≤ 8
-  unfolding operands_from
-  count_few x code h =
-      rw (counted.n_is, count_there)
-      (count_by s (count_at sh s at + 1) (not sh.literal) (num_at s (count_at sh s at) 1) h.args)
-
-  pub literal_ok : (x code : ℕ) → Readable (operands_from sh s at x code) → LitOk (cond sh.literal (lit_from s lit) no_lit)
-  unfolding operands_from
-  literal_ok x code h = rw lit_there h.lit
-
-module _ {sh : Shape} {s : List ℕ} {at lit count n callee blocks m : ℕ} (places : Places sh s at lit count n callee blocks m) where
-  callee_there : callee ≡ callee_at sh s at
+  pub callee_there :
+      {count n callee : ℕ} → count ≡ count_at sh s at → n ≡ count_from sh s count →
+      callee ≡ cond (not sh.literal) (count + (1 + 2 * n)) count → callee ≡ callee_at sh s at
   unfolding callee_at
-  callee_there =
-      places.callee_is ∙ behind_args (not sh.literal) count (num_at s count 1) n places.counted.n_is ∙
-      ap (λ (p : ℕ). cond (not sh.literal) (behind two_on (p + 1) (num_at s p 1)) p) (count_there places.counted)
+  callee_there {count} {n} c f e =
+      e ∙ behind_args (not sh.literal) count (num_at s count 1) n f ∙
+      ap (λ (p : ℕ). cond (not sh.literal) (behind two_on (p + 1) (num_at s p 1)) p) c
 
-  blocks_there : blocks ≡ targets_at sh s at
+  pub blocks_there : {callee blocks : ℕ} → callee ≡ callee_at sh s at → blocks ≡ cond sh.callee (callee + 2) callee → blocks ≡ targets_at sh s at
   unfolding targets_at
-  blocks_there = places.blocks_is ∙ ap (λ (p : ℕ). cond sh.callee (p + 2) p) callee_there
+  blocks_there c e = e ∙ ap (λ (p : ℕ). cond sh.callee (p + 2) p) c
 
-  many_there : m ≡ targets sh (count_from sh s (count_at sh s at))
-  many_there =
-      places.m_is ∙ ap (targets sh) (places.counted.n_is ∙ ap (count_from sh s) (count_there places.counted))
+  pub few_arguments : (x code : ℕ) → Readable (operands_from sh s at x code) → count_from sh s (count_at sh s at) ≤ 8
+  unfolding operands_from
+  few_arguments x code h = count_by s (count_at sh s at + 1) (not sh.literal) (num_at s (count_at sh s at) 1) h.args
 
-  pub end_there : blocks + 2 * m ≡ operands_end sh s at
-  unfolding operands_end
-  end_there = sym (behind_two blocks m) ∙ (λ j. behind two_on (blocks_there j) (many_there j))
+-- ---- the parts at their places
+module _ {s : List ℕ} {at code : ℕ} {p : Parts} (there : PartsAt s at code p) where
+  abbrev sh : Shape
+  sh = p.shape
 
-  module _ (x code : ℕ) where
-    pub operands_again :
-        (i : Instruction) →
-        sh ≡ shape_of code →
-        i.id ≡ x →
-        i.op ≡ op_of code →
-        i.dest ≡ nm (cond sh.dest (num_at s at 2) 0) →
-        literal_of i.literal ≡ cond sh.literal (lit_from s lit) no_lit →
-        i.count ≡ n →
-        take n i.args ≡ items (number_from s) two_on (count + 1) n →
-        i.callee ≡ cond sh.callee (num_at s callee 2) 0 →
-        take m i.blocks ≡ items (number_from s) two_on blocks m →
-        instr_of i ≡ operands_from sh s at x code
-    unfolding instr_of operands_from index_from
-    operands_again i e f o d l c a k b =
-        let code_is : code_of i.op ≡ code = ap code_of o ∙ op_code code in
-        let dest_is : i.dest ≡ cond sh.dest (index_from s at) (nm 0) = d ∙ nm_cond sh.dest (num_at s at 2) in
-        let literal_is : literal_of i.literal ≡ cond sh.literal (lit_from s (lit_at sh s at)) no_lit =
-        l ∙ ap (λ (p : ℕ). cond sh.literal (lit_from s p) no_lit) (lit_there places.counted) in
-        let args_are : map nm (take i.count i.args) ≡
-        cond (not sh.literal) (items (index_from s) two_on (count_at sh s at + 1) (num_at s (count_at sh s at) 1)) [] =
-        ap (λ (m : ℕ). map nm (take m i.args)) c ∙ args_by s (count + 1) (not sh.literal) n (num_at s count 1) i.args places.counted.n_is a ∙
-        ap (λ (p : ℕ). cond (not sh.literal) (items (index_from s) two_on (p + 1) (num_at s p 1)) []) (count_there places.counted) in
-        let callee_there_is : i.callee ≡ cond sh.callee (num_at s (callee_at sh s at) 2) 0 =
-        k ∙ ap (λ (p : ℕ). cond sh.callee (num_at s p 2) 0) callee_there in
-        let m_as_written : targets (shape_of (code_of i.op)) i.count ≡ m =
-        (λ j. targets ((ap shape_of code_is ∙ sym e) j) (c j)) ∙ sym places.m_is in
-        let blocks_are : take (targets (shape_of (code_of i.op)) i.count) i.blocks ≡
-        items (number_from s) two_on (targets_at sh s at) (targets sh (count_from sh s (count_at sh s at))) =
-        ap (λ (k : ℕ). take k i.blocks) m_as_written ∙ b ∙ (λ j. items (number_from s) two_on (blocks_there j) (many_there j)) in
-        λ j. record {
-          id = f j;
-          code = code_is j;
-          dest = dest_is j;
-          lit = literal_is j;
-          args = args_are j;
-          callee = callee_there_is j;
-          blocks = blocks_are j;
-        }
+  many_there : p.targets ≡ targets sh (count_from sh s (count_at sh s at))
+  many_there = there.targets ∙ ap (targets sh) (there.args ∙ ap (count_from sh s) there.count)
+
+  pub end_there : p.blocks + 2 * p.targets ≡ operands_end (shape_of code) s at
+  unfolding operands_end behind
+  end_there =
+      sym (behind_two p.blocks p.targets) ∙ (λ j. behind two_on (there.blocks j) (many_there j)) ∙
+      ap (λ (t : Shape). operands_end t s at) there.shape
+
+  pub literal_ok : (x : ℕ) → Readable (operands_from (shape_of code) s at x code) → LitOk (cond sh.literal (lit_from s p.literal) no_lit)
+  unfolding operands_from
+  literal_ok x h = rw (there.literal, there.shape) h.lit
+
+  pub operands_again :
+      (x : ℕ) (i : Instruction) →
+      i.id ≡ x →
+      i.op ≡ op_of code →
+      i.dest ≡ nm (cond sh.dest (num_at s at 2) 0) →
+      literal_of i.literal ≡ cond sh.literal (lit_from s p.literal) no_lit →
+      i.count ≡ p.args →
+      take p.args i.args ≡ items (number_from s) two_on (p.count + 1) p.args →
+      i.callee ≡ cond sh.callee (num_at s p.callee 2) 0 →
+      take p.targets i.blocks ≡ items (number_from s) two_on p.blocks p.targets →
+      instr_of i ≡ operands_from (shape_of code) s at x code
+  unfolding instr_of operands_from index_from
+  operands_again x i f o d l c a k b =
+      let code_is : code_of i.op ≡ code = ap code_of o ∙ op_code code in
+      let dest_is : i.dest ≡ cond sh.dest (index_from s at) (nm 0) = d ∙ nm_cond sh.dest (num_at s at 2) in
+      let literal_is : literal_of i.literal ≡ cond sh.literal (lit_from s (lit_at sh s at)) no_lit =
+      l ∙ ap (λ (q : ℕ). cond sh.literal (lit_from s q) no_lit) there.literal in
+      let args_are : map nm (take i.count i.args) ≡
+      cond (not sh.literal) (items (index_from s) two_on (count_at sh s at + 1) (num_at s (count_at sh s at) 1)) [] =
+      ap (λ (m : ℕ). map nm (take m i.args)) c ∙ args_by s (p.count + 1) (not sh.literal) p.args (num_at s p.count 1) i.args there.args a ∙
+      ap (λ (q : ℕ). cond (not sh.literal) (items (index_from s) two_on (q + 1) (num_at s q 1)) []) there.count in
+      let callee_is : i.callee ≡ cond sh.callee (num_at s (callee_at sh s at) 2) 0 =
+      k ∙ ap (λ (q : ℕ). cond sh.callee (num_at s q 2) 0) there.callee in
+      let m_as_written : targets (shape_of (code_of i.op)) i.count ≡ p.targets =
+      (λ j. targets ((ap shape_of code_is ∙ sym there.shape) j) (c j)) ∙ sym there.targets in
+      let blocks_are : take (targets (shape_of (code_of i.op)) i.count) i.blocks ≡
+      items (number_from s) two_on (targets_at sh s at) (targets sh (count_from sh s (count_at sh s at))) =
+      ap (λ (n : ℕ). take n i.blocks) m_as_written ∙ b ∙ (λ j. items (number_from s) two_on (there.blocks j) (many_there j)) in
+      let whole : instr_of i ≡ operands_from sh s at x code =
+      λ j. record {
+        id = f j;
+        code = code_is j;
+        dest = dest_is j;
+        lit = literal_is j;
+        args = args_are j;
+        callee = callee_is j;
+        blocks = blocks_are j;
+      } in
+      whole ∙ ap (λ (t : Shape). operands_from t s at x code) there.shape
 
 -- ---- an instruction by its id, its code and the rest
-module _
-    (w : ℕ) (s : List ℕ) (at x code : ℕ) (sh : Shape)
-    (id_is : x ≡ num_at s at w)
-    (code_is : code ≡ num_at s (at + w) 1)
-    (Shape-is : sh ≡ shape_of code)
-  where
-    instr_parts : instr_from w s at ≡ operands_from sh s (at + w + 1) x code
-    unfolding instr_from
-    instr_parts = rw (Shape-is, code_is, id_is)
+module _ (w : ℕ) (s : List ℕ) (at x code : ℕ) (id_is : x ≡ num_at s at w) (code_is : code ≡ num_at s (at + w) 1) where
+  instr_parts : instr_from w s at ≡ operands_from (shape_of code) s (at + w + 1) x code
+  unfolding instr_from
+  instr_parts = rw (code_is, id_is)
 
-    end_parts : operands_end sh s (at + w + 1) ≡ instr_end w s at
-    unfolding instr_end
-    end_parts = rw (Shape-is, code_is)
+  end_parts : operands_end (shape_of code) s (at + w + 1) ≡ instr_end w s at
+  unfolding instr_end
+  end_parts = rw code_is
 
-    pub readable_parts : Readable (instr_from w s at) → Readable (operands_from sh s (at + w + 1) x code)
-    readable_parts h = rw instr_parts at h
+  pub readable_parts : Readable (instr_from w s at) → Readable (operands_from (shape_of code) s (at + w + 1) x code)
+  readable_parts h = rw instr_parts at h
 
-    pub read_again : {r : Read} → w ≤ 8 → x < 256 ^ w → OperandsAgain sh s (at + w + 1) x code r → ReadAgain w s at r
-    read_again {r} h k o =
-        record {
-          instr = o.instr ∙ sym instr_parts;
-          op = o.op ∙ ap op_of code_is;
-          next = o.next ∙ end_parts;
-          near = let n : r.next ≤ at + w + 1 + longest_operands = o.near in omega arith;
-          id = subst (λ (y : ℕ). y < 256 ^ w) (sym o.id) k;
-          count = o.count;
-        }
+  pub read_again : {r : Read} → w ≤ 8 → x < 256 ^ w → OperandsAgain (shape_of code) s (at + w + 1) x code r → ReadAgain w s at r
+  read_again {r} h k o =
+      record {
+        instr = o.instr ∙ sym instr_parts;
+        op = o.op ∙ ap op_of code_is;
+        next = o.next ∙ end_parts;
+        near = let n : r.next ≤ at + w + 1 + longest_operands = o.near in omega arith;
+        id = subst (λ (y : ℕ). y < 256 ^ w) (sym o.id) k;
+        count = o.count;
+      }
 
 -- ---- an instruction of an accepted record
 no_lit_ok : LitOk no_lit

@@ -1,13 +1,11 @@
 -- Numbers of two bytes in a row, read again.
-use Prim.Native.Nat.{ℕ, zero, suc, ◌+◌, ◌*◌, ◌<◌, ◌≤◌}
+use Prim.Native.Nat.{ℕ, zero, suc, ◌+◌, ◌*◌, ◌<◌}
 use mathlib.Core.Path.{◌≡◌, refl, sym, ap, ◌∙◌}
 use mathlib.Core.List.{List, [], ◌∷◌, ◌++◌, map}
-use mathlib.Core.Bool.{cond}
 use native.Mathlib.Omega.{arith}
 use native.Mathlib.Numerals.{add-one}
 use lib.ListN.{length, take, set}
 use lib.Seq.{take-suc-set}
-use lib.Dec.{leb}
 use Rattle.record.specs.declared.NameIx.{NameIx}
 use Rattle.record.specs.Record.{nm}
 use Rattle.record.specs.Reader.{num_at}
@@ -31,19 +29,6 @@ pub items_set :
 items_set f l at p i y h e g k =
     let d : y ≡ f (at + 2 * i) = g ∙ ap f e in
     rw (add-one i, take-suc-set l i y h, k, d) (sym (items_more f at i))
-
--- two, of which the first n count
-pub items_two :
-    (f : ℕ → ℕ) (p n x y : ℕ) →
-    n ≤ 2 →
-    x ≡ cond (leb 1 n) (f p) 0 →
-    y ≡ cond (leb 2 n) (f (p + 2)) 0 →
-    take n (x ∷ y ∷ []) ≡ items f two_on p n
-unfolding items
-items_two f p zero x y h d e = refl
-items_two f p (suc zero) x y h d e = ap (λ (z : ℕ). z ∷ []) d
-items_two f p (suc (suc zero)) x y h d e = rw (d, e)
-items_two f p (suc (suc (suc n))) x y h d e = absurd (omega arith)
 
 -- as indexes of names
 pub items_indexes : (s : List ℕ) (p n : ℕ) → map nm (items (number_from s) two_on p n) ≡ items (index_from s) two_on p n

@@ -7,11 +7,11 @@ ghost use Rattle.record.specs.Shape.{shape_of};
 ghost use Rattle.record.specs.Reader.{num_at};
 ghost use Rattle.record.specs.Good.{LitOk};
 ghost use Rattle.record.specs.Answer.{literal_of};
-ghost use Rattle.record.specs.Decode.{two_on, number_from, items, operands_from, instr_from};
+ghost use Rattle.record.specs.Decode.{two_on, number_from, items, count_from, count_at, operands_from, instr_from};
 ghost use Rattle.record.specs.Sizes.{longest_operands, longest_instr};
 ghost use Rattle.read_fields.specs.Places.{places};
 ghost use Rattle.write_bytes.specs.Put.{IdWidth};
-ghost use Rattle.read_instrs.specs.Again.{lit_from, Readable, OperandsAgain, ReadAgain};
+ghost use Rattle.read_instrs.specs.Again.{lit_from, Readable, PartsAt, OperandsAgain, ReadAgain};
 
 use record::{Instruction, Literal, NameIx, Shape};
 
@@ -28,9 +28,9 @@ pub fn read_id(s: &[u8], at: usize, w: usize) -> u64
     ensures { (result ≡ num_at s.now at w) × (result < 256 ^ w) }
 {
     if w == 8 {
-        return read_fields::be64(s, at);
+        return read_fields::be::<8>(s, at);
     }
-    read_fields::be32(s, at)
+    read_fields::be::<4>(s, at)
 }
 
 // A number of two bytes, where it is there; else 0.
@@ -39,7 +39,7 @@ fn two_if(there: bool, s: &[u8], at: usize) -> u16
     ensures { result ≡ cond there (num_at s.now at 2) 0 }
 {
     if there {
-        return read_fields::be16(s, at) as u16;
+        return read_fields::be::<2>(s, at) as u16;
     }
     0
 }
@@ -50,7 +50,7 @@ fn read_literal(there: bool, s: &[u8], at: usize) -> Literal
     ensures { literal_of result ≡ cond there (lit_from s.now at) no_lit }
 {
     if there {
-        return codes::literal_of(read_fields::byte_or(s, at), read_fields::be64(s, at + 1));
+        return codes::literal_of(read_fields::byte_or(s, at), read_fields::be::<8>(s, at + 1));
     }
     Literal::Int(0)
 }
@@ -60,41 +60,66 @@ fn read_row(s: &[u8], at: usize, n: u64) -> [u16; 8]
     requires { (at + 2 * n < places) × (n ≤ 8) }
     ensures { take n result ≡ items (number_from s.now) two_on at n }
 {
-    let m = n as usize;
     let mut row = [0u16; 8];
-    let mut p = at;
-    let mut i: usize = 0;
-    while i < m {
-        row[i] = read_fields::be16(s, p) as u16;
-        p += 2;
-        i += 1;
+    for (i, x) in row[..n as usize].iter_mut().enumerate() {
+        *x = read_fields::be::<2>(s, at + 2 * i) as u16;
     }
     row
 }
 
-// What stands behind the code.
-fn read_operands(s: &[u8], at: usize, sh: Shape, id: u64, code: u8) -> Read
-    requires { (at + longest_operands < places) × ((sh ≡ shape_of code) × Readable (operands_from sh s.now at id code)) }
-    ensures { OperandsAgain sh s.now at id code result }
+// Where the parts behind a code stand, and how many arguments and block numbers there are.
+#[derive(Clone, Copy)]
+struct Parts {
+    shape: Shape,
+    literal: usize,
+    count: usize,
+    args: u64,
+    callee: usize,
+    blocks: usize,
+    targets: u64,
+}
+
+// The parts behind a code.
+fn parts_at(s: &[u8], at: usize, code: u8) -> Parts
+    requires { (at + longest_operands < places) × (count_from (shape_of code) s.now (count_at (shape_of code) s.now at) ≤ 8) }
+    ensures { PartsAt s.now at code result }
 {
-    let lit = read_fields::past_if(sh.dest, at, 2);
-    let count = read_fields::past_if(sh.literal, lit, 9);
-    let n = read_shapes::count_from(sh, s, count);
-    let callee = read_fields::past_if(!sh.literal, count, 1 + 2 * (n as usize));
-    let blocks = read_fields::past_if(sh.callee, callee, 2);
-    let m = read_shapes::targets(sh, n);
+    let shape = read_shapes::shape_of(code as u64);
+    let literal = read_fields::past_if(shape.dest, at, 2);
+    let count = read_fields::past_if(shape.literal, literal, 9);
+    let args = read_shapes::count_from(shape, s, count);
+    let callee = read_fields::past_if(!shape.literal, count, 1 + 2 * (args as usize));
+    let blocks = read_fields::past_if(shape.callee, callee, 2);
+    let targets = read_shapes::targets(shape, args);
+    Parts {
+        shape,
+        literal,
+        count,
+        args,
+        callee,
+        blocks,
+        targets,
+    }
+}
+
+// What stands behind the code.
+fn read_operands(s: &[u8], at: usize, id: u64, code: u8) -> Read
+    requires { (at + longest_operands < places) × Readable (operands_from (shape_of code) s.now at id code) }
+    ensures { OperandsAgain (shape_of code) s.now at id code result }
+{
+    let p = parts_at(s, at, code);
     Read {
         instr: Instruction {
-            id: id,
+            id,
             op: codes::op_of(code),
-            dest: NameIx(two_if(sh.dest, s, at)),
-            literal: read_literal(sh.literal, s, lit),
-            count: n as u8,
-            args: read_row(s, count + 1, n),
-            callee: two_if(sh.callee, s, callee),
-            blocks: read_row(s, blocks, m),
+            dest: NameIx(two_if(p.shape.dest, s, at)),
+            literal: read_literal(p.shape.literal, s, p.literal),
+            count: p.args as u8,
+            args: read_row(s, p.count + 1, p.args),
+            callee: two_if(p.shape.callee, s, p.callee),
+            blocks: read_row(s, p.blocks, p.targets),
         },
-        next: blocks + 2 * (m as usize),
+        next: p.blocks + 2 * (p.targets as usize),
     }
 }
 
@@ -105,5 +130,5 @@ pub fn read_instr(s: &[u8], at: usize, w: usize) -> Read
 {
     let id = read_id(s, at, w);
     let code = read_fields::byte_or(s, at + w);
-    read_operands(s, at + w + 1, read_shapes::shape_of(code), id, code as u8)
+    read_operands(s, at + w + 1, id, code as u8)
 }

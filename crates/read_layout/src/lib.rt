@@ -68,10 +68,8 @@ fn body_end(s: &[u8], w: usize, n: usize, at: usize) -> usize
     ensures { (result ≡ behind (instr_end w s.now) at n) × (result ≤ at + instr_reach * n) }
 {
     let mut p = at;
-    let mut left = n;
-    while left > 0 {
+    for _ in 0..n {
         p = instr_end(s, w, p);
-        left -= 1;
     }
     p
 }
@@ -81,21 +79,12 @@ pub fn block_end(s: &[u8], w: usize, at: usize) -> usize
     requires { (w ≤ widest_id) × (at + block_reach < places) }
     ensures { (result ≡ block_end w s.now at) × (result ≤ at + block_reach) }
 {
-    body_end(s, w, read_fields::be16(s, at) as usize, at + 2 + 2)
+    body_end(s, w, read_fields::be::<2>(s, at) as usize, at + 2 + 2)
 }
 
 // ---- tables
-// Entry i of a table of types, which stays as it is where it has no such entry.
-fn store_type(table: &mut [u8], i: usize, v: u8)
-    ensures { table.new ≡ set table.old i v }
-{
-    if i < table.len() {
-        table[i] = v;
-    }
-}
-
-// The same of a table of places.
-fn store_place(table: &mut [u32], i: usize, v: u32)
+// Entry i of a table, which stays as it is where it has no such entry.
+fn store<T: Copy>(table: &mut [T], i: usize, v: T)
     ensures { table.new ≡ set table.old i v }
 {
     if i < table.len() {
@@ -110,13 +99,9 @@ pub fn fill_blocks(s: &[u8], w: usize, places: &mut [u32], n: usize, at: usize) 
         × (places.new ≡ sets places.old 0 (blocks_from w s.now at n)) }
 {
     let mut p = at;
-    let mut left = n;
-    let mut i: usize = 0;
-    while left > 0 {
-        store_place(places, i, p as u32);
+    for i in 0..n {
+        store(places, i, p as u32);
         p = block_end(s, w, p);
-        i += 1;
-        left -= 1;
     }
     p
 }
@@ -139,14 +124,10 @@ pub fn fill_names(s: &[u8], types: &mut [u8], places: &mut [u32], n: usize, at: 
         × (places.new ≡ sets places.old 0 (places_from s.now at n)) }
 {
     let mut p = at;
-    let mut left = n;
-    let mut i: usize = 0;
-    while left > 0 {
-        store_type(types, i, read_fields::byte_or(s, p) as u8);
-        store_place(places, i, p as u32);
+    for i in 0..n {
+        store(types, i, read_fields::byte_or(s, p) as u8);
+        store(places, i, p as u32);
         p = name_end(s, p);
-        i += 1;
-        left -= 1;
     }
     p
 }
@@ -158,13 +139,13 @@ pub fn layout_of(s: &[u8], types: &mut [u8], places: &mut [u32]) -> Layout
         × (types.new ≡ sets types.old 0 (types_from s.now 8 (names_count s.now)))
         × (places.new ≡ sets places.old 0 (places_from s.now 8 (names_count s.now))) }
 {
-    let names = read_fields::be16(s, 6);
+    let names = read_fields::be::<2>(s, 6);
     let end = fill_names(s, types, places, names as usize, 8);
     Layout {
         width: id_width(s),
         args: read_fields::byte_or(s, 5) as u16,
         names: names as u16,
         end,
-        blocks: read_fields::be16(s, end) as usize,
+        blocks: read_fields::be::<2>(s, end) as usize,
     }
 }

@@ -8,7 +8,7 @@ use lib.ListN.{drop}
 use Rattle.arith.specs.Value.{scalar}
 use Rattle.record.specs.declared.Shape.{Shape}
 use Rattle.record.specs.declared.Refusal.TheVariants.{Limit, Code, Place}
-use Rattle.record.specs.declared.Test.TheVariants.{Fails}
+use Rattle.std.specs.Prelude.{Err}
 use Rattle.record.specs.Shape.{unknown, shapes, shape_of}
 use Rattle.record.specs.Tests.{need, at_most, code_test, literal_test}
 use Rattle.record.proofs.Form.{row_beyond}
@@ -26,7 +26,7 @@ shape_none c g = sym (row_beyond unknown shapes 71 c refl (omega arith))
 
 -- a code whose shape the code has found
 module _ (last : Bool) (c : ℕ) (sh : Shape) (e : sh ≡ shape_of c) where
-  pub code_unknown : sh.known ≡ false → Fails Code ≡ code_test last c
+  pub code_unknown : sh.known ≡ false → Err Code ≡ code_test last c
   unfolding code_test
   code_unknown k = rw (← e, k)
 

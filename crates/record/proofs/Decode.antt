@@ -13,7 +13,7 @@ use Rattle.record.specs.declared.NameIx.{NameIx}
 use Rattle.record.specs.declared.Shape.{Shape}
 use Rattle.record.specs.declared.Limits.{Limits}
 use Rattle.record.specs.declared.Refusal.TheVariants.{Length}
-use Rattle.record.specs.declared.Test.{Test}
+use Rattle.record.specs.Reader.{Test}
 use Rattle.record.specs.Record.{nm, no_lit, most_args, most_blocks, id_bytes}
 use Rattle.record.specs.Shape.{targets, shape_of}
 use Rattle.record.specs.Reader.{Res, got, fault, Reader, then, refuse, give, ◌>>=◌, here, num_at, field, text, if_there, times}

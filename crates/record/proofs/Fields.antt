@@ -8,8 +8,8 @@ use lib.Dec.{ltb}
 use borrow.Author.Tests.{ltb-false}
 use Rattle.arith.proofs.Clash.{clash}
 use Rattle.record.specs.declared.Refusal.TheVariants.{Length}
-use Rattle.record.specs.declared.Test.{Test}
-use Rattle.record.specs.declared.Test.TheVariants.{Passes, Fails}
+use Rattle.record.specs.Reader.{Test}
+use Rattle.std.specs.Prelude.{Ok, Err}
 use Rattle.record.specs.Reader.{got, refuse, judge, num_at, field, text}
 
 -- n bytes at a place hold v, and x was read up to p
@@ -17,7 +17,7 @@ pub record Told {A : Type 0} (test : A → Test) (s : List ℕ) (at n : ℕ) (v 
   pub value : x ≡ v
   pub ends : p ≡ at + n
   pub room : n ≤ length s - at
-  pub passes : test x ≡ Passes
+  pub passes : test x ≡ Ok tt
 
 part_tells :
     {A : Type 0} (test : A → Test) (s : List ℕ) (at n : ℕ) (v x : A) (p : ℕ) →
@@ -29,10 +29,10 @@ part_tells test s at n v x p e = go (ltb (length s - at) n) refl (test v) refl e
         (b : Bool) → ltb (length s - at) n ≡ b → (t : Test) → test v ≡ t →
         refuse b Length at (judge t at (got v (at + n))) ≡ got x p → Told test s at n v x p
     go true l t h e = clash (cc)
-    go false l Passes h e =
+    go false l (Ok u) h e =
         let same : x ≡ v = cc in
         record { value = same; ends = cc; room = ltb-false (length s - at) n l; passes = ap test same ∙ h }
-    go false l (Fails k) h e = clash (cc)
+    go false l (Err k) h e = clash (cc)
 
 pub field_tells :
     (w : ℕ) (test : ℕ → Test) (s : List ℕ) (at x p : ℕ) → field w test s at ≡ got x p → Told test s at w (num_at s at w) x p

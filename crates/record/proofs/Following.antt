@@ -11,26 +11,32 @@ use borrow.Author.Tests.{lt-ltb, le-ltb, lt-leb, le-leb, ltb-true}
 use Rattle.arith.proofs.Clash.{clash}
 use Rattle.record.specs.declared.Refusal.{Refusal}
 use Rattle.record.specs.declared.Refusal.TheVariants.{Length}
-use Rattle.record.specs.declared.Test.{Test}
-use Rattle.record.specs.declared.Next.{Next}
-use Rattle.record.specs.declared.Next.TheVariants.{At, Refused}
+use Rattle.record.specs.Reader.{Test}
+use Rattle.record.specs.declared.Fault.{Fault}
+use Rattle.std.specs.Prelude.{Result, Ok, Err}
+use Rattle.std.specs.Result.{IsErrAnd}
 use Rattle.record.specs.declared.Shape.{Shape}
 use Rattle.record.specs.Reader.{Res, got, fault, Reader, then, refuse, judge, give, here, ◌>>=◌, num_at, field, if_there, times}
 use Rattle.record.specs.Record.{Instr, Placed, nm}
 use Rattle.record.specs.Shape.{row_of, shape_of}
 use Rattle.record.specs.Tests.{any, below}
 use Rattle.record.specs.Read.{name_index, operands}
-use Rattle.record.specs.Answer.{verdict}
+use Rattle.record.specs.Answer.{fault_at, verdict}
 use Rattle.record.proofs.Tests.{and_left, and_right}
 
+-- ---- what `?` hands on: the error itself
+pub handed_on : {A E : Type 0} (r : Result A E) (f : E) → IsErrAnd r (λ e. e ≡ f) → r ≡ Err f
+handed_on (Ok x) f h = absurd h
+handed_on (Err e) f h = ap Err h
+
 -- ---- a verdict, back to what was read
-pub verdict_got : {A : Type 0} (z : Res A) (q : ℕ) → verdict z ≡ At q → (x : A) × (z ≡ got x q)
+pub verdict_got : {A : Type 0} (z : Res A) (q : ℕ) → verdict z ≡ Ok q → (x : A) × (z ≡ got x q)
 verdict_got (got x p) q e = let j : p ≡ q = cc in (x, ap (got x) j)
 verdict_got (fault k o) q e = clash (cc)
 
-pub verdict_fault : {A : Type 0} (z : Res A) (k : Refusal) (o : ℕ) → verdict z ≡ Refused k o → z ≡ fault k o
-verdict_fault (got x p) k o e = clash (cc)
-verdict_fault (fault k' o') k o e = cc
+pub verdict_fault : {A : Type 0} (z : Res A) (f : Fault) → verdict z ≡ Err f → z ≡ fault f.refusal f.offset
+verdict_fault (got x p) f e = clash (cc)
+verdict_fault (fault k o) f e = let g : fault_at k o ≡ f = cc in ap (λ (h : Fault). fault h.refusal h.offset) g
 
 -- ---- a condition
 -- how the code takes `a || b` and `a && b` apart: its result r is a where that settles it, and b where not
@@ -84,27 +90,27 @@ module _ (w : ℕ) (test : ℕ → Test) (s : List ℕ) (at : ℕ) where
 -- ---- one reader after another
 module _ {A B : Type 0} (r : Reader A) (f : A → Reader B) (s : List ℕ) (at : ℕ) where
   -- by what was read
-  pub read_no : (k : Refusal) (o : ℕ) → r s at ≡ fault k o → Refused k o ≡ verdict ((r >>= f) s at)
+  pub read_no : (a : Fault) → r s at ≡ fault a.refusal a.offset → Err a ≡ verdict ((r >>= f) s at)
   unfolding ◌>>=◌
-  read_no k o e = sym (ap (λ (z : Res A). verdict (then z (λ x p. f x s p))) e)
+  read_no a e = sym (ap (λ (z : Res A). verdict (then z (λ x p. f x s p))) e)
 
-  pub read_is : (x : A) (p : ℕ) (v : Next) → r s at ≡ got x p → v ≡ verdict (f x s p) → v ≡ verdict ((r >>= f) s at)
+  pub read_is : (x : A) (p : ℕ) (v : Result ℕ Fault) → r s at ≡ got x p → v ≡ verdict (f x s p) → v ≡ verdict ((r >>= f) s at)
   unfolding ◌>>=◌
   read_is x p v e h = h ∙ sym (ap (λ (z : Res A). verdict (then z (λ x p. f x s p))) e)
 
   -- by the verdict alone
-  pub stopped : (k : Refusal) (o : ℕ) → verdict (r s at) ≡ Refused k o → Refused k o ≡ verdict ((r >>= f) s at)
+  pub stopped : (a : Fault) → verdict (r s at) ≡ Err a → Err a ≡ verdict ((r >>= f) s at)
   unfolding ◌>>=◌
-  stopped k o e = sym (ap (λ (z : Res A). verdict (then z (λ x p. f x s p))) (verdict_fault (r s at) k o e))
+  stopped a e = sym (ap (λ (z : Res A). verdict (then z (λ x p. f x s p))) (verdict_fault (r s at) a e))
 
-  pub passed_by : (p : ℕ) (v : Next) → verdict (r s at) ≡ At p → ((x : A) → r s at ≡ got x p → v ≡ verdict (f x s p)) → v ≡ verdict ((r >>= f) s at)
+  pub passed_by : (p : ℕ) (v : Result ℕ Fault) → verdict (r s at) ≡ Ok p → ((x : A) → r s at ≡ got x p → v ≡ verdict (f x s p)) → v ≡ verdict ((r >>= f) s at)
   passed_by p v e h = let (x, g) = verdict_got (r s at) p e in read_is x p v g (h x g)
 
-  pub passed : (p : ℕ) (v : Next) → verdict (r s at) ≡ At p → ((x : A) → v ≡ verdict (f x s p)) → v ≡ verdict ((r >>= f) s at)
+  pub passed : (p : ℕ) (v : Result ℕ Fault) → verdict (r s at) ≡ Ok p → ((x : A) → v ≡ verdict (f x s p)) → v ≡ verdict ((r >>= f) s at)
   passed p v e h = passed_by p v e (λ x g. h x)
 
 -- the place itself
-pub here_is : {B : Type 0} (f : ℕ → Reader B) (s : List ℕ) (at : ℕ) (v : Next) →
+pub here_is : {B : Type 0} (f : ℕ → Reader B) (s : List ℕ) (at : ℕ) (v : Result ℕ Fault) →
     v ≡ verdict (f at s at) → v ≡ verdict ((here >>= f) s at)
 unfolding ◌>>=◌ here
 here_is f s at v e = e
@@ -121,11 +127,11 @@ made {A} r g s at = go (r s at)
 
 -- ---- items in a row
 module _ {A : Type 0} (r : ℕ → Reader A) (s : List ℕ) (p : ℕ) where
-  item_stopped : (n : ℕ) (k : Refusal) (o : ℕ) → verdict (r n s p) ≡ Refused k o → Refused k o ≡ verdict (times (suc n) r s p)
+  item_stopped : (n : ℕ) (a : Fault) → verdict (r n s p) ≡ Err a → Err a ≡ verdict (times (suc n) r s p)
   unfolding times
-  item_stopped n k o e = stopped (r n) _ s p k o e
+  item_stopped n a e = stopped (r n) _ s p a e
 
-  item_went : (n q : ℕ) → verdict (r n s p) ≡ At q → verdict (times n r s q) ≡ verdict (times (suc n) r s p)
+  item_went : (n q : ℕ) → verdict (r n s p) ≡ Ok q → verdict (times n r s q) ≡ verdict (times (suc n) r s p)
   unfolding times
   item_went n q e = passed (r n) _ s p q (verdict (times n r s q)) e (λ x. sym (made (times n r) (λ xs. x ∷ xs) s q))
 
@@ -134,13 +140,23 @@ module _ {A : Type 0} (r : ℕ → Reader A) (s : List ℕ) (p left : ℕ) (h : 
   one_less : suc (left - 1) ≡ left
   one_less = omega arith
 
-  pub times_stopped : (k : Refusal) (o : ℕ) → verdict (r (left - 1) s p) ≡ Refused k o → Refused k o ≡ verdict (times left r s p)
-  times_stopped k o e = item_stopped r s p (left - 1) k o e ∙ ap (λ (n : ℕ). verdict (times n r s p)) one_less
+  pub times_stopped : (a : Fault) → verdict (r (left - 1) s p) ≡ Err a → Err a ≡ verdict (times left r s p)
+  times_stopped a e = item_stopped r s p (left - 1) a e ∙ ap (λ (n : ℕ). verdict (times n r s p)) one_less
 
-  pub times_went : (q : ℕ) → verdict (r (left - 1) s p) ≡ At q → verdict (times (left - 1) r s q) ≡ verdict (times left r s p)
+  pub times_went : (q : ℕ) → verdict (r (left - 1) s p) ≡ Ok q → verdict (times (left - 1) r s q) ≡ verdict (times left r s p)
   times_went q e = item_went r s p (left - 1) q e ∙ ap (λ (n : ℕ). verdict (times n r s p)) one_less
 
-pub times_done : {A : Type 0} (r : ℕ → Reader A) (s : List ℕ) (p left : ℕ) → left ≡ 0 → At p ≡ verdict (times left r s p)
+-- where the code counts up: behind i of n, whose items are read alike
+module _ {A : Type 0} (r : Reader A) (s : List ℕ) (p n i : ℕ) (h : i < n) where
+  pub row_stopped : (a : Fault) → verdict (r s p) ≡ Err a → Err a ≡ verdict (times (n - i) (λ left. r) s p)
+  row_stopped = times_stopped (λ left. r) s p (n - i) (omega arith)
+
+  pub row_went : (q : ℕ) → verdict (r s p) ≡ Ok q → verdict (times (n - (i + 1)) (λ left. r) s q) ≡ verdict (times (n - i) (λ left. r) s p)
+  row_went q e =
+      let one : n - (i + 1) ≡ n - i - 1 = omega arith in
+      ap (λ k. verdict (times k (λ left. r) s q)) one ∙ times_went (λ left. r) s p (n - i) (omega arith) q e
+
+pub times_done : {A : Type 0} (r : ℕ → Reader A) (s : List ℕ) (p left : ℕ) → left ≡ 0 → Ok p ≡ verdict (times left r s p)
 unfolding times give
 times_done r s p left z = sym (ap (λ (n : ℕ). verdict (times n r s p)) z)
 
@@ -152,10 +168,10 @@ module _ {A B : Type 0} (r : ℕ → Reader A) (q : ℕ → Reader B)
   times_verdict zero s at = refl
   times_verdict (suc n) s at = go (verdict (r n s at)) refl (λ p. times_verdict n s p)
     where
-      go : (v : Next) → verdict (r n s at) ≡ v → ((p : ℕ) → verdict (times n r s p) ≡ verdict (times n q s p)) →
+      go : (v : Result ℕ Fault) → verdict (r n s at) ≡ v → ((p : ℕ) → verdict (times n r s p) ≡ verdict (times n q s p)) →
           verdict (times (suc n) r s at) ≡ verdict (times (suc n) q s at)
-      go (At p) e rest = sym (item_went r s at n p e) ∙ rest p ∙ item_went q s at n p (sym (same n s at) ∙ e)
-      go (Refused k o) e rest = sym (item_stopped r s at n k o e) ∙ item_stopped q s at n k o (sym (same n s at) ∙ e)
+      go (Ok p) e rest = sym (item_went r s at n p e) ∙ rest p ∙ item_went q s at n p (sym (same n s at) ∙ e)
+      go (Err a) e rest = sym (item_stopped r s at n a e) ∙ item_stopped q s at n a (sym (same n s at) ∙ e)
 
 -- ---- a part that is there or not
 module _ {A : Type 0} (b : Bool) (d : A) (r : Reader A) (s : List ℕ) (at : ℕ) where
@@ -163,7 +179,7 @@ module _ {A : Type 0} (b : Bool) (d : A) (r : Reader A) (s : List ℕ) (at : ℕ
   unfolding if_there
   there_yes e = rw e
 
-  pub there_no : b ≡ false → At at ≡ verdict (if_there b d r s at)
+  pub there_no : b ≡ false → Ok at ≡ verdict (if_there b d r s at)
   unfolding if_there give
   there_no e = rw e
 
@@ -178,7 +194,7 @@ pub indexes_verdict : (N n : ℕ) (s : List ℕ) (at : ℕ) →
 indexes_verdict N n s at = times_verdict (λ left. name_index N) (λ left. field 2 (below N)) (λ left. index_verdict N) n s at
 
 -- operands of a shape that the code found
-pub shaped : (N B id code : ℕ) (sh : Shape) (g : Instr → Placed) (s : List ℕ) (at : ℕ) (v : Next) →
+pub shaped : (N B id code : ℕ) (sh : Shape) (g : Instr → Placed) (s : List ℕ) (at : ℕ) (v : Result ℕ Fault) →
     ((id code : ℕ) → v ≡ verdict (operands N B sh id code s at)) → sh ≡ shape_of code →
     v ≡ verdict ((operands N B (shape_of code) id code >>= λ i. give (g i)) s at)
 shaped N B id code sh g s at v h e =

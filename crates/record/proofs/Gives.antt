@@ -9,8 +9,8 @@ use native.Mathlib.Nat.{mul-le-mul_right}
 use lib.ListN.{length, get_or, take, drop, length-drop, length-map}
 use lib.Seq.{length-take-le}
 use Rattle.arith.proofs.Clash.{clash}
-use Rattle.record.specs.declared.Test.{Test}
-use Rattle.record.specs.declared.Test.TheVariants.{Passes}
+use Rattle.record.specs.Reader.{Test}
+use Rattle.std.specs.Prelude.{Ok}
 use Rattle.record.specs.Record.{Bytes}
 use Rattle.record.specs.Reader.{Res, got, fault, Reader, then, give, ◌>>=◌, here, num_at, field, text, if_there, times}
 use Rattle.record.specs.Good.{There, Each}
@@ -50,7 +50,7 @@ module _ {s : List ℕ} where
   -- what is known of a field's number by its place is known of what the field gives
   field_told :
       (w : ℕ) (test : ℕ → Test) (P : ℕ → Type 0) →
-      ((at : ℕ) → test (num_at s at w) ≡ Passes → P (num_at s at w)) →
+      ((at : ℕ) → test (num_at s at w) ≡ Ok tt → P (num_at s at w)) →
       Gives s (field w test) P
   field_told w test P told =
       record {
@@ -60,8 +60,8 @@ module _ {s : List ℕ} where
             subst P (sym t.value) (told at (ap test (sym t.value) ∙ t.passes));
       }
 
-  pub field_gives : (w : ℕ) (test : ℕ → Test) → Gives s (field w test) (λ x. test x ≡ Passes)
-  field_gives w test = field_told w test (λ x. test x ≡ Passes) (λ at h. h)
+  pub field_gives : (w : ℕ) (test : ℕ → Test) → Gives s (field w test) (λ x. test x ≡ Ok tt)
+  field_gives w test = field_told w test (λ x. test x ≡ Ok tt) (λ at h. h)
 
   pub field_ranged : Bytes s → (w : ℕ) (test : ℕ → Test) → Gives s (field w test) (λ x. x < 256 ^ w)
   field_ranged b w test = field_told w test (λ x. x < 256 ^ w) (λ at h. num_at_below s b at w)
@@ -69,7 +69,7 @@ module _ {s : List ℕ} where
   -- ---- texts
   text_told :
       (n : ℕ) (test : List ℕ → Test) (P : List ℕ → Type 0) →
-      ((at : ℕ) → length (take n (drop at s)) ≡ n → test (take n (drop at s)) ≡ Passes → P (take n (drop at s))) →
+      ((at : ℕ) → length (take n (drop at s)) ≡ n → test (take n (drop at s)) ≡ Ok tt → P (take n (drop at s))) →
       Gives s (text n test) P
   text_told n test P told =
       record {
@@ -80,8 +80,8 @@ module _ {s : List ℕ} where
             subst P (sym t.value) (told at l (ap test (sym t.value) ∙ t.passes));
       }
 
-  pub text_gives : (n : ℕ) (test : List ℕ → Test) → Gives s (text n test) (λ t. (length t ≡ n) × (test t ≡ Passes))
-  text_gives n test = text_told n test (λ t. (length t ≡ n) × (test t ≡ Passes)) (λ at l h. (l, h))
+  pub text_gives : (n : ℕ) (test : List ℕ → Test) → Gives s (text n test) (λ t. (length t ≡ n) × (test t ≡ Ok tt))
+  text_gives n test = text_told n test (λ t. (length t ≡ n) × (test t ≡ Ok tt)) (λ at l h. (l, h))
 
   pub text_ranged : Bytes s → (n : ℕ) (test : List ℕ → Test) → Gives s (text n test) Bytes
   text_ranged b n test = text_told n test Bytes (λ at l h. bytes_take n (drop at s) (bytes_drop at s b))

@@ -6,7 +6,7 @@ use native.Mathlib.Omega.{arith}
 use lib.ListN.{length}
 use Rattle.arith.proofs.Clash.{clash}
 use Rattle.record.specs.declared.Limits.{Limits}
-use Rattle.record.specs.declared.Test.{Test}
+use Rattle.record.specs.Reader.{Test}
 use Rattle.record.specs.Record.{Placed, Record, most_args, most_blocks}
 use Rattle.record.specs.Reader.{Res, got, fault, Reader, then, ◌>>=◌, num_at, field}
 use Rattle.record.specs.Tests.{at_most, version_test, names_test}

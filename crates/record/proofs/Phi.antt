@@ -8,7 +8,7 @@ use lib.Dec.{eqb}
 use borrow.Author.Tests.{eqb-true}
 use Rattle.record.specs.declared.NameIx.{NameIx}
 use Rattle.record.specs.declared.Shape.{Shape}
-use Rattle.record.specs.declared.Test.TheVariants.{Passes}
+use Rattle.std.specs.Prelude.{Ok}
 use Rattle.record.specs.Record.{Instr}
 use Rattle.record.specs.Shape.{phi, row_of, shape_of}
 use Rattle.record.specs.Tests.{below}
@@ -20,7 +20,7 @@ phi_shape : shape_of 39 ≡ phi
 unfolding shape_of
 phi_shape = refl
 
-blocks_below : (B : ℕ) (bs : List ℕ) → Each (λ left x. below B x ≡ Passes) bs → Each (λ left x. x < B) bs
+blocks_below : (B : ℕ) (bs : List ℕ) → Each (λ left x. below B x ≡ Ok tt) bs → Each (λ left x. x < B) bs
 blocks_below B [] h = tt
 blocks_below B (b ∷ bs) h = (below_lt B b h.0, blocks_below B bs h.1)
 

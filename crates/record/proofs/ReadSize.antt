@@ -9,7 +9,7 @@ use lib.ListN.{length, drop, length-append}
 use lib.Dec.{eqb}
 use Rattle.record.specs.declared.Shape.{Shape}
 use Rattle.record.specs.declared.Limits.{Limits}
-use Rattle.record.specs.declared.Test.{Test}
+use Rattle.record.specs.Reader.{Test}
 use Rattle.record.specs.Record.{nm, no_lit, Placed, Record, plain_block, plain, most_args, most_blocks, id_bytes, limits}
 use Rattle.record.specs.Shape.{targets, shape_of}
 use Rattle.record.specs.Tests.{any, at_most, below, length_test, version_test, names_test, type_test, text_length_test, text_test, saves_test, code_test, count_test, literal_test}

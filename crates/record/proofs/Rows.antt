@@ -26,6 +26,21 @@ module _ (next : ℕ → ℕ) (p left : ℕ) (h : 0 < left) where
       let first : items one next p left ≡ one p ∷ items one next (next p) (left - 1) = ap (items one next p) (one_more left h) in
       rw (em, ev, eq, j, first)
 
+-- where the code counts up: behind i of n
+module _ (next : ℕ → ℕ) (p n i : ℕ) (h : i < n) where
+  one_less : n - (i + 1) ≡ n - i - 1
+  one_less = omega arith
+
+  pub behind_next : (q : ℕ) → q ≡ next p → behind next q (n - (i + 1)) ≡ behind next p (n - i)
+  behind_next q e = ap (behind next q) one_less ∙ behind_went next p (n - i) (omega arith) q e
+
+  pub filled_next :
+      (one : ℕ → ℕ) (l m : List ℕ) (v q : ℕ) → m ≡ set l i v → v ≡ one p → q ≡ next p →
+      sets m (i + 1) (items one next q (n - (i + 1))) ≡ sets l i (items one next p (n - i))
+  filled_next one l m v q em ev eq =
+      ap (λ k. sets m (i + 1) (items one next q k)) one_less
+      ∙ filled_went next p (n - i) (omega arith) one l m i v q em ev eq
+
 pub behind_done : (next : ℕ → ℕ) (p left : ℕ) → left ≡ 0 → p ≡ behind next p left
 unfolding behind
 behind_done next p left z = sym (ap (behind next p) z)

@@ -9,8 +9,8 @@ use native.Mathlib.Nat.{add-zero, div-add-mod'}
 use lib.ListN.{length, get_or, take, drop, length-append, length-drop}
 use lib.Seq.{get_or-drop, drop-drop, drop-append_seam, take-append_seam}
 use borrow.Author.Tests.{le-ltb}
-use Rattle.record.specs.declared.Test.{Test}
-use Rattle.record.specs.declared.Test.TheVariants.{Passes}
+use Rattle.record.specs.Reader.{Test}
+use Rattle.std.specs.Prelude.{Ok}
 use Rattle.record.specs.Reader.{Res, got, Reader, then, give, ◌>>=◌, here, num_at, field, text, if_there, times}
 use Rattle.record.specs.Write.{be, join, when}
 use Rattle.record.specs.Good.{There, Each}
@@ -53,7 +53,7 @@ num_be (suc w) x s rest at e =
 -- ---- readers
 pub field_reads :
     (w at x : ℕ) (test : ℕ → Test) →
-    test x ≡ Passes →
+    test x ≡ Ok tt →
     Reads (field (suc w) test) at x (be (suc w) x)
 unfolding field
 field_reads w at x test ok =
@@ -65,7 +65,7 @@ field_reads w at x test ok =
           simp (le-ltb (length s - at) (suc w) h, n, ok, l);
     }
 
-pub text_reads : (at : ℕ) (t : List ℕ) (test : List ℕ → Test) → test t ≡ Passes → Reads (text (length t) test) at t t
+pub text_reads : (at : ℕ) (t : List ℕ) (test : List ℕ → Test) → test t ≡ Ok tt → Reads (text (length t) test) at t t
 unfolding text
 text_reads at t test ok =
     record {

@@ -9,7 +9,7 @@ use native.Mathlib.Nat.{add-zero, mod-eq_of_lt, div-eq_of_lt, mul-add-div_right,
 use lib.ListN.{length, get_or, take, drop, take-append-drop, length-append, length-drop}
 use lib.Seq.{drop-cons, drop-drop, length-take-le}
 use Rattle.arith.proofs.Clash.{clash}
-use Rattle.record.specs.declared.Test.{Test}
+use Rattle.record.specs.Reader.{Test}
 use Rattle.record.specs.Record.{Bytes}
 use Rattle.record.specs.Reader.{Res, got, fault, Reader, then, give, ◌>>=◌, here, num_at, field, text, if_there, times}
 use Rattle.record.specs.Write.{be, join, when}

@@ -10,8 +10,8 @@ use Rattle.arith.specs.Value.{scalar}
 use Rattle.record.specs.declared.Shape.{Shape}
 use Rattle.record.specs.declared.Refusal.{Refusal}
 use Rattle.record.specs.declared.Refusal.TheVariants.{Limit, Name, Code, Place}
-use Rattle.record.specs.declared.Test.{Test}
-use Rattle.record.specs.declared.Test.TheVariants.{Passes, Fails}
+use Rattle.record.specs.Reader.{Test}
+use Rattle.std.specs.Prelude.{Ok, Err}
 use Rattle.record.specs.Shape.{shape_of}
 use Rattle.record.specs.Text.{same_bytes}
 use Rattle.record.specs.Tests.{need, and_then, at_most, below, names_test, code_test, count_test, literal_test}
@@ -49,62 +49,62 @@ same_bytes_eq (x ∷ t) (y ∷ u) e =
     cc
 
 -- ---- tests
-pub need_passes : (b : Bool) (k : Refusal) → need b k ≡ Passes → b ≡ true
+pub need_passes : (b : Bool) (k : Refusal) → need b k ≡ Ok tt → b ≡ true
 need_passes true k e = refl
 need_passes false k e = clash (cc)
 
-pub passes_need : (b : Bool) (k : Refusal) → b ≡ true → need b k ≡ Passes
+pub passes_need : (b : Bool) (k : Refusal) → b ≡ true → need b k ≡ Ok tt
 passes_need b k e = rw e
 
-pub and_then_first : (s t : Test) → and_then s t ≡ Passes → s ≡ Passes
-and_then_first Passes t e = refl
-and_then_first (Fails k) t e = e
+pub and_then_first : (s t : Test) → and_then s t ≡ Ok tt → s ≡ Ok tt
+and_then_first (Ok p) t e = refl
+and_then_first (Err k) t e = e
 
-pub and_then_second : (s t : Test) → and_then s t ≡ Passes → t ≡ Passes
-and_then_second Passes t e = e
-and_then_second (Fails k) t e = clash (cc)
+pub and_then_second : (s t : Test) → and_then s t ≡ Ok tt → t ≡ Ok tt
+and_then_second (Ok p) t e = e
+and_then_second (Err k) t e = clash (cc)
 
 -- ---- fields
-pub at_most_le : (most x : ℕ) → at_most most x ≡ Passes → x ≤ most
+pub at_most_le : (most x : ℕ) → at_most most x ≡ Ok tt → x ≤ most
 unfolding at_most
 at_most_le most x e = leb-true x most (need_passes (leb x most) Limit e)
 
-pub le_at_most : (most x : ℕ) → x ≤ most → at_most most x ≡ Passes
+pub le_at_most : (most x : ℕ) → x ≤ most → at_most most x ≡ Ok tt
 unfolding at_most
 le_at_most most x h = passes_need (leb x most) Limit (le-leb x most h)
 
-pub below_lt : (n x : ℕ) → below n x ≡ Passes → x < n
+pub below_lt : (n x : ℕ) → below n x ≡ Ok tt → x < n
 unfolding below
 below_lt n x e = ltb-true x n (need_passes (ltb x n) Name e)
 
-pub lt_below : (n x : ℕ) → x < n → below n x ≡ Passes
+pub lt_below : (n x : ℕ) → x < n → below n x ≡ Ok tt
 unfolding below
 lt_below n x h = passes_need (ltb x n) Name (lt-ltb x n h)
 
 -- the number of names is within its limit, and the arguments are among them
-pub names_limit : (most args n : ℕ) → names_test most args n ≡ Passes → n ≤ most
+pub names_limit : (most args n : ℕ) → names_test most args n ≡ Ok tt → n ≤ most
 unfolding names_test
 names_limit most args n e = leb-true n most (and_left (leb n most) (leb args n) (need_passes (leb n most && leb args n) Limit e))
 
-pub names_args : (most args n : ℕ) → names_test most args n ≡ Passes → args ≤ n
+pub names_args : (most args n : ℕ) → names_test most args n ≡ Ok tt → args ≤ n
 unfolding names_test
 names_args most args n e = leb-true args n (and_right (leb n most) (leb args n) (need_passes (leb n most && leb args n) Limit e))
 
-pub names_passes : (most args n : ℕ) → n ≤ most → args ≤ n → names_test most args n ≡ Passes
+pub names_passes : (most args n : ℕ) → n ≤ most → args ≤ n → names_test most args n ≡ Ok tt
 unfolding names_test
 names_passes most args n h k = passes_need _ Limit (and_both _ _ (le-leb n most h) (le-leb args n k))
 
 module _ (sh : Shape) (n : ℕ) where
-  pub count_few : count_test sh n ≡ Passes → sh.few ≤ n
+  pub count_few : count_test sh n ≡ Ok tt → sh.few ≤ n
   unfolding count_test
   count_few e = leb-true sh.few n (and_left (leb sh.few n) (leb n sh.most) (need_passes _ Limit e))
 
-  pub count_most : count_test sh n ≡ Passes → n ≤ sh.most
+  pub count_most : count_test sh n ≡ Ok tt → n ≤ sh.most
   unfolding count_test
   count_most e = leb-true n sh.most (and_right (leb sh.few n) (leb n sh.most) (need_passes _ Limit e))
 
 -- a code that is known, and stands last where it has to
-module _ (last : Bool) (c : ℕ) (e : code_test last c ≡ Passes) where
+module _ (last : Bool) (c : ℕ) (e : code_test last c ≡ Ok tt) where
   pub code_known : (shape_of c).known ≡ true
   unfolding code_test
   code_known = need_passes (shape_of c).known Code (and_then_first (need (shape_of c).known Code) _ e)
@@ -117,6 +117,6 @@ module _ (last : Bool) (c : ℕ) (e : code_test last c ≡ Passes) where
       or_first last (not (shape_of c).last) h (ap not l)
 
 -- a char's bits
-pub literal_scalar : (bits : ℕ) → literal_test 3 bits ≡ Passes → scalar bits ≡ true
+pub literal_scalar : (bits : ℕ) → literal_test 3 bits ≡ Ok tt → scalar bits ≡ true
 unfolding literal_test
 literal_scalar bits e = need_passes (scalar bits) Limit e

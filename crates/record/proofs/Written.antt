@@ -13,7 +13,7 @@ use Rattle.record.specs.declared.NameIx.{NameIx}
 use Rattle.record.specs.declared.Shape.{Shape}
 use Rattle.record.specs.declared.Limits.{Limits}
 use Rattle.record.specs.declared.Refusal.TheVariants.{Version, Limit}
-use Rattle.record.specs.declared.Test.TheVariants.{Passes}
+use Rattle.std.specs.Prelude.{Ok}
 use Rattle.record.specs.Record.{Bytes, Lit, Instr, Block, Name, Record, most_args, most_blocks, id_bytes}
 use Rattle.record.specs.Shape.{shape_of}
 use Rattle.record.specs.Tests.{below, version_test, text_length_test}
@@ -101,7 +101,7 @@ module _ (N B : ℕ) (many : N ≤ 256 ^ 2) (blocks : B ≤ 256 ^ 2) where
       (join_bytes _ _ (when_bytes (not sh.literal) (ArgsOk N sh) _ i.args _ h.args (arguments_written sh i.args m))
       (join_bytes _ _ (when_bytes sh.callee _ _ i.callee _ h.callee (λ a. be_bytes 2 i.callee k.callee))
       (join_bytes _ _
-      (map_bytes (be 2) (λ left x. below B x ≡ Passes) (λ left x e. be_bytes 2 x (omega (arith, below_lt B x e))) i.blocks h.blocks)
+      (map_bytes (be 2) (λ left x. below B x ≡ Ok tt) (λ left x e. be_bytes 2 x (omega (arith, below_lt B x e))) i.blocks h.blocks)
       nothing_bytes))))
 
   instr_written : (w left : ℕ) (i : Instr) → InstrOk N B left i → RangedInstr w i → Bytes (instr_bytes w i)

@@ -1,15 +1,12 @@
 -- What the answers say: the number and values of document 01 for each case, and the literals of the code as those of a record.
-use Rattle.std.specs.Prelude.{ℕ, List, [], ◌∷◌, cond}
+use Rattle.std.specs.Prelude.{⊤, Result, Ok, Err, ℕ, List, [], ◌∷◌, cond}
 use Rattle.std.proofs.Common.{of_z}
 use Rattle.std.specs.Int.{w64}
 use Rattle.std.specs.Float.{binary64}
 use Rattle.std.specs.Float.Ieee.{to_bits}
 use Rattle.record.specs.declared.Refusal.{Refusal}
 use Rattle.record.specs.declared.Refusal.TheVariants.{Length, Version, Limit, Text, Code, Name, Types, Place}
-use Rattle.record.specs.declared.Next.{Next}
-use Rattle.record.specs.declared.Next.TheVariants as next
-use Rattle.record.specs.declared.Checked.{Checked}
-use Rattle.record.specs.declared.Checked.TheVariants.{Accepted, Refused}
+use Rattle.record.specs.declared.Fault.{Fault}
 use Rattle.record.specs.declared.Literal.{Literal}
 use Rattle.record.specs.declared.Literal.TheVariants.{Int, Bool as BoolLiteral, Float, Nan, Char}
 use Rattle.record.specs.Record.{Lit, limits}
@@ -36,24 +33,29 @@ abbrev pub success : List ℕ → Returned
 success vs = record { number = 0; values = vs }
 
 -- "It returns number and offset of the field"
-abbrev pub refusal : Refusal → ℕ → Returned
-refusal k o = record { number = number k; values = o ∷ [] }
+abbrev pub refusal : Fault → Returned
+refusal f = record { number = number f.refusal; values = f.offset ∷ [] }
 
-unfoldable pub check_answer : Checked → Returned
-check_answer Accepted = success []
-check_answer (Refused k o) = refusal k o
+-- the first fault, by its reason and offset
+abbrev pub fault_at : Refusal → ℕ → Fault
+fault_at k o = record { refusal = k; offset = o }
 
--- the value of a reader forgotten
-abbrev pub verdict : {A : Type 0} → Res A → Next
-verdict (got x p) = next.At p
-verdict (fault k o) = next.Refused k o
+unfoldable pub check_answer : Result ⊤ Fault → Returned
+check_answer (Ok accepted) = success []
+check_answer (Err f) = refusal f
 
-abbrev pub checked_as : {A : Type 0} → Res A → Checked
-checked_as (got x p) = Accepted
-checked_as (fault k o) = Refused k o
+-- the value of a reader forgotten: where reading goes on, or the first fault
+abbrev pub verdict : {A : Type 0} → Res A → Result ℕ Fault
+verdict (got x p) = Ok p
+verdict (fault k o) = Err (fault_at k o)
+
+-- the answer of check: accepted, or the first fault
+abbrev pub checked_as : {A : Type 0} → Res A → Result ⊤ Fault
+checked_as (got x p) = Ok tt
+checked_as (fault k o) = Err (fault_at k o)
 
 -- "Check": "Accepted means that no test fails"
-unfoldable pub checked : List ℕ → Checked
+unfoldable pub checked : List ℕ → Result ⊤ Fault
 checked s = checked_as (accept limits s)
 
 -- "Enum Literal with Int(i64), Bool(bool), Float(f64), Char(u32), equal by bits"

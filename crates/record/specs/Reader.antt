@@ -1,10 +1,12 @@
 -- "Fields are tested in the order read, one past the end before its value."
 -- A reader takes the bytes and a place, and gives a value and the place behind it, or the reason and offset of the first fault.
-use Rattle.std.specs.Prelude.{ℕ, zero, suc, ◌+◌, ◌-◌, ◌*◌, ◌^◌, List, [], ◌∷◌, Bool, true, false, length, get_or, take, drop, ltb}
+use Rattle.std.specs.Prelude.{⊤, Result, Ok, Err, ℕ, zero, suc, ◌+◌, ◌-◌, ◌*◌, ◌^◌, List, [], ◌∷◌, Bool, true, false, length, get_or, take, drop, ltb}
 use Rattle.record.specs.declared.Refusal.{Refusal}
 use Rattle.record.specs.declared.Refusal.TheVariants.{Length}
-use Rattle.record.specs.declared.Test.{Test}
-use Rattle.record.specs.declared.Test.TheVariants.{Passes, Fails}
+
+-- what a field's test says of its number: it passes, or the reason for which it is refused
+abbrev pub Test : Type 0
+Test = Result ⊤ Refusal
 
 infixl 20 ◌>>=◌
 pub data Res (A : Type 0) : Type 0 where
@@ -24,8 +26,8 @@ refuse false k o r = r
 
 -- refused at o where the test fails
 abbrev pub judge : {A : Type 0} → Test → ℕ → Res A → Res A
-judge Passes o r = r
-judge (Fails k) o r = fault k o
+judge (Ok p) o r = r
+judge (Err k) o r = fault k o
 
 -- ---- readers
 unfoldable pub give : {A : Type 0} → A → Reader A

@@ -4,23 +4,23 @@ use Rattle.arith.specs.Value.{scalar}
 use Rattle.record.specs.declared.Shape.{Shape}
 use Rattle.record.specs.declared.Refusal.{Refusal}
 use Rattle.record.specs.declared.Refusal.TheVariants.{Length, Version, Limit, Text, Code, Name, Place}
-use Rattle.record.specs.declared.Test.{Test}
-use Rattle.record.specs.declared.Test.TheVariants.{Passes, Fails}
+use Rattle.record.specs.Reader.{Test}
+use Rattle.std.specs.Prelude.{Ok, Err}
 use Rattle.record.specs.Shape.{shape_of}
 use Rattle.record.specs.Text.{well_formed, reserved, among}
 
 -- passes where the condition holds
 abbrev pub need : Bool → Refusal → Test
-need true k = Passes
-need false k = Fails k
+need true k = Ok tt
+need false k = Err k
 
 -- two tests, the first first
 abbrev pub and_then : Test → Test → Test
-and_then Passes t = t
-and_then (Fails k) t = Fails k
+and_then (Ok p) t = t
+and_then (Err k) t = Err k
 
 unfoldable pub any : ℕ → Test
-any x = Passes
+any x = Ok tt
 
 unfoldable pub at_most : ℕ → ℕ → Test
 at_most most x = need (leb x most) Limit
@@ -66,7 +66,7 @@ count_test sh n = need (leb sh.few n && leb n sh.most) Limit
 
 -- "a bool or char literal not of its kind"
 unfoldable pub literal_test : ℕ → ℕ → Test
-literal_test zero x = Passes
+literal_test zero x = Ok tt
 literal_test (suc zero) x = at_most 1 x
-literal_test (suc (suc zero)) x = Passes
+literal_test (suc (suc zero)) x = Ok tt
 literal_test (suc (suc (suc k))) x = need (scalar x) Limit

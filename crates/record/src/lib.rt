@@ -7,7 +7,7 @@ use arith::{One, Two};
 pub const FLOAT: u8 = 0x02;
 
 // The index of a name. Value numbers are another kind, ValNum of the crate numbering.
-#[derive(Clone, Copy)]
+#[derive(Clone, Copy, PartialEq, Eq, Debug)]
 pub struct NameIx(pub u16);
 
 // A literal. The logic has one NaN and no contract can say which bits a NaN has, so the bits of a NaN stand in a variant of their own.
@@ -74,7 +74,7 @@ pub struct Limits {
 }
 
 // The reasons of check's refusals; specs/Answer.antt has their numbers.
-#[derive(Clone, Copy)]
+#[derive(Clone, Copy, PartialEq, Eq, Debug)]
 pub enum Refusal {
     Length,
     Version,
@@ -86,23 +86,9 @@ pub enum Refusal {
     Place,
 }
 
-// What a field's test says of its number.
-#[derive(Clone, Copy)]
-pub enum Test {
-    Passes,
-    Fails(Refusal),
-}
-
-// Where reading goes on, or the first fault: its reason and offset.
-#[derive(Clone, Copy)]
-pub enum Next {
-    At(usize),
-    Refused(Refusal, usize),
-}
-
-// The answer of check.
-#[derive(Clone, Copy)]
-pub enum Checked {
-    Accepted,
-    Refused(Refusal, usize),
+// The first fault of a record: the reason of the refusal, and the offset of the field.
+#[derive(Clone, Copy, PartialEq, Eq, Debug)]
+pub struct Fault {
+    pub refusal: Refusal,
+    pub offset: usize,
 }

@@ -2,168 +2,139 @@
 // the lines that agree.
 #![tactic(auto)]
 
-ghost use Rattle.std.specs.Prelude.{◌+◌, ◌<◌, ◌≤◌, length};
+ghost use Rattle.std.specs.Prelude.{◌+◌, ◌≡◌, ◌<◌, ◌≤◌, length, IfSome};
 
-use std::io;
-use std::io::Write;
+use std::io::{Read, Write};
+use std::{fmt, io};
 
 // The length of the longest list, in bytes.
 pub const LONGEST: usize = 524288;
 
-// Where reading goes on, and how many bytes were made.
+// What is left to read of a list, or of a line.
 #[derive(Clone, Copy)]
-pub struct Part {
-    pub next: usize,
-    pub len: usize,
+pub struct Cursor<'a> {
+    rest: &'a [u8],
 }
 
-// Where reading goes on, and the number read.
-#[derive(Clone, Copy)]
-pub struct Decimal {
-    pub next: usize,
-    pub value: u64,
+impl<'a> Cursor<'a> {
+    // Reads a line, with the byte that ends it.
+    fn line(&mut self) -> Option<Cursor<'a>>
+        ensures { IfSome result (λ line. 0 < length line.rest.now × (length line.rest.now + length self.new.rest.now ≡ length self.old.rest.now)) }
+    {
+        let line = self.rest.split_inclusive(|c| *c == b'\n').next()?;
+        self.rest = &self.rest[line.len()..];
+        Some(Cursor { rest: line })
+    }
+
+    // Reads this byte, if it comes next, and returns whether it does.
+    pub fn skip(&mut self, c: u8) -> bool {
+        match self.rest.split_first() {
+            Some((first, rest)) if *first == c => {
+                self.rest = rest;
+                true
+            }
+            _ => false,
+        }
+    }
+
+    // Reads the decimal number that comes next, or behind a space; its last 64 bits where it has more.
+    pub fn number(&mut self) -> u64 {
+        self.skip(b' ');
+        let mut value = 0u64;
+        while let Some((c, rest)) = self.rest.split_first() {
+            if !c.is_ascii_digit() {
+                break;
+            }
+            value = value.wrapping_mul(10).wrapping_add(u64::from(*c - b'0'));
+            self.rest = rest;
+        }
+        value
+    }
+
+    // Reads hexadecimal digits, two to a byte, as far as they and the room go, and returns the bytes that they stand for.
+    pub fn bytes<'b>(&mut self, room: &'b mut [u8]) -> &'b [u8]
+        ensures { length result.now ≤ length room.old }
+    {
+        let mut n = 0;
+        for x in room.iter_mut() {
+            let [high, low, rest @ ..] = self.rest else {
+                break;
+            };
+            let (Some(high), Some(low)) = (hex_digit(*high), hex_digit(*low)) else {
+                break;
+            };
+            *x = high * 16 + low;
+            self.rest = rest;
+            n += 1;
+        }
+        &room[..n]
+    }
 }
 
-// Where the next line begins, and whether all answers to this one agreed.
-#[derive(Clone, Copy)]
-pub struct Line {
-    pub next: usize,
-    pub same: bool,
+// The value of a hexadecimal digit in small letters.
+pub fn hex_digit(c: u8) -> Option<u8>
+    ensures { IfSome result (λ d. d < 16) }
+{
+    match c {
+        b'0'..=b'9' => Some(c - b'0'),
+        b'a'..=b'f' => Some(c - b'a' + 10),
+        _ => None,
+    }
 }
 
-// Where the next line begins, and how many before it agreed and how many did not.
+// Whether these stand first, and beyond them nothing but `fill`.
+pub fn holds_before_fill<T: Copy + PartialEq>(all: &[T], first: &[T], fill: T) -> bool {
+    match all.strip_prefix(first) {
+        Some(rest) => rest.iter().all(|x| *x == fill),
+        None => false,
+    }
+}
+
+// How many lines agreed and how many did not.
 #[derive(Clone, Copy)]
 pub struct Counts {
-    pub at: usize,
-    pub same: u64,
-    pub other: u64,
+    pub same: usize,
+    pub other: usize,
 }
 
-// The value of a hexadecimal digit in small letters; 16 for any other byte.
-pub fn hex_digit(c: u8) -> u8
-    ensures { result ≤ 16 }
+impl fmt::Display for Counts {
+    fn fmt<W: fmt::Write>(&self, f: &mut fmt::Formatter<W>) -> fmt::Result {
+        let same = self.same;
+        let other = self.other;
+        write!(f, "{same} agree, {other} differ")
+    }
+}
+
+// All lines: one agrees where `agrees` reads the whole of it and returns true.
+pub fn replay<F: Fn(&mut Cursor<'_>) -> bool>(text: &[u8], agrees: F) -> Counts
+    requires { F.IsAlwaysCallable agrees }
+    ensures { result.same + result.other ≤ length text.now }
 {
-    if c < 48 {
-        return 16;
+    let mut list = Cursor { rest: text };
+    let mut same = 0;
+    let mut other = 0;
+    while let Some(mut line) = list.line() {
+        if agrees(&mut line) && matches!(line.rest, [] | [b'\n']) {
+            same += 1;
+        } else {
+            other += 1;
+        }
     }
-    if c < 58 {
-        return c - 48;
-    }
-    if c < 97 {
-        return 16;
-    }
-    if c < 103 {
-        return c - 87;
-    }
-    16
+    Counts { same, other }
 }
 
-// Decodes the digits at `at` into `out`, two to a byte, as far as they and the room go.
-pub fn decode(text: &[u8], at: usize, out: &mut [u8]) -> Part
-    ensures { result.len ≤ length out.new }
+// The list that is read, told in what is written: how many lines agree, and how many do not. It is read into an array that is lent, since the
+// check cannot go through the making of one so long in a function with bounds.
+pub fn tell<R: Read, W: Write, F: Fn(&mut Cursor<'_>) -> bool>(
+    reader: &mut R,
+    writer: &mut W,
+    text: &mut [u8; LONGEST],
+    agrees: F,
+) -> io::Result<()>
+    requires { F.IsAlwaysCallable agrees }
 {
-    let mut p = at;
-    let mut n = 0;
-    while n < out.len() {
-        if text.len() <= p {
-            return Part { next: p, len: n };
-        }
-        if text.len() - p < 2 {
-            return Part { next: p, len: n };
-        }
-        let high = hex_digit(text[p]);
-        let low = hex_digit(text[p + 1]);
-        if high > 15 {
-            return Part { next: p, len: n };
-        }
-        if low > 15 {
-            return Part { next: p, len: n };
-        }
-        out[n] = high * 16 + low;
-        p += 2;
-        n += 1;
-    }
-    Part { next: p, len: n }
-}
-
-// The place behind the byte `c` at `at`, or `at` where another stands there.
-pub fn skip(text: &[u8], at: usize, c: u8) -> usize {
-    if at < text.len() {
-        if text[at] == c {
-            return at + 1;
-        }
-    }
-    at
-}
-
-// Ten times x and a digit more, in 64 bits.
-fn with_digit(x: u64, digit: u64) -> u64 {
-    let two = std::num::wrapping_add_u64(x, x);
-    let four = std::num::wrapping_add_u64(two, two);
-    let eight = std::num::wrapping_add_u64(four, four);
-    std::num::wrapping_add_u64(std::num::wrapping_add_u64(eight, two), digit)
-}
-
-// The decimal number at `at`, or behind a space there; its last 64 bits where it has more.
-pub fn number(text: &[u8], at: usize) -> Decimal {
-    let mut p = skip(text, at, b' ');
-    let mut value = 0;
-    while p < text.len() {
-        let c = text[p];
-        if c < 48 {
-            return Decimal { next: p, value };
-        }
-        if c > 57 {
-            return Decimal { next: p, value };
-        }
-        value = with_digit(value, (c - 48) as u64);
-        p += 1;
-    }
-    Decimal { next: p, value }
-}
-
-// Before the first line.
-pub fn no_counts() -> Counts
-    ensures { result.same + result.other ≤ result.at }
-{
-    Counts {
-        at: 0,
-        same: 0,
-        other: 0,
-    }
-}
-
-// With one more line, in a text of `end` bytes; a line that cannot be read differs, and ends the list.
-pub fn counted(counts: Counts, line: Line, end: usize) -> Counts
-    requires { (counts.same + counts.other ≤ counts.at) × (counts.at < end) }
-    ensures { (result.same + result.other ≤ result.at) × (counts.at < result.at) }
-{
-    let same = counts.same;
-    let other = counts.other;
-    if line.next <= counts.at {
-        return Counts {
-            at: end,
-            same,
-            other: other + 1,
-        };
-    }
-    if line.same {
-        return Counts {
-            at: line.next,
-            same: same + 1,
-            other,
-        };
-    }
-    Counts {
-        at: line.next,
-        same,
-        other: other + 1,
-    }
-}
-
-// Writes the counts.
-pub fn print_counts<W: Write>(to: &mut W, counts: Counts) -> io::Result<()> {
-    let same = counts.same;
-    let other = counts.other;
-    writeln!(to, "{same} agree, {other} differ")
+    let list: &mut [u8] = text;
+    let n = read_input::read_full(reader, list)?;
+    let counts = replay(&list[..n], agrees);
+    writeln!(writer, "{counts}")
 }

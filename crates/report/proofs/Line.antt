@@ -1,6 +1,6 @@
 -- The line of a refusal, written part by part.
 use Prim.Native.Nat.{ℕ, ◌+◌}
-use mathlib.Core.Path.{◌≡◌}
+use mathlib.Core.Path.{◌≡◌, subst}
 use mathlib.Core.List.{List, [], ◌∷◌, ◌++◌}
 use Rattle.record.specs.Write.{be}
 use Rattle.numbering.specs.Made.{digits}
@@ -17,16 +17,18 @@ abbrev pub at : List ℕ
 at = 0x20 ∷ 0x61 ∷ 0x74 ∷ 0x20 ∷ []
 
 pub line_wrote :
-    {l m n o t r : List ℕ} {i p q v u : ℕ} (number value : ℕ) →
+    {l m n o t r : List ℕ} {i p q v u x : ℕ} (number value : ℕ) →
+    x ≡ number →
     Wrote l m i p refused →
-    Wrote m n p q (digits number) →
+    Wrote m n p q (digits x) →
     Wrote n o q v at →
     Wrote o t v u (digits value) →
     r ≡ put t u (be 1 0x0A) →
     Wrote l r i (u + 1) (refused_line (record { number = number; values = value ∷ [] }))
 unfolding be refused_line
-line_wrote number value a b c d e =
+line_wrote {m = m} {n = n} {p = p} {q = q} number value same a b c d e =
     wrote_append refused (digits number ++ (at ++ (digits value ++ be 1 0x0A))) a
-    (wrote_append (digits number) (at ++ (digits value ++ be 1 0x0A)) b
+    (wrote_append (digits number) (at ++ (digits value ++ be 1 0x0A))
+    (subst (λ (k : ℕ). Wrote m n p q (digits k)) same b)
     (wrote_append at (digits value ++ be 1 0x0A) c
     (wrote_append (digits value) (be 1 0x0A) d (wrote_number 1 0x0A e))))

@@ -4,7 +4,7 @@ use mathlib.Core.Path.{◌≡◌, refl, sym, ap, ◌∙◌}
 use mathlib.Core.Bool.{Bool, true, false, cond}
 use mathlib.Core.List.{List, [], ◌∷◌, ◌++◌}
 use native.Mathlib.Omega.{arith}
-use lib.ListN.{length, take, drop, replicate, length-take, length-replicate}
+use lib.ListN.{length, take, drop, replicate, length-replicate}
 use lib.Seq.{take-append_seam}
 use lib.Dec.{ltb}
 use borrow.Author.Tests.{ltb-false, lt-ltb, le-ltb}
@@ -12,12 +12,14 @@ use Rattle.arith.proofs.Clash.{clash}
 use Rattle.record.specs.Record.{Placed, Record, plain, limits}
 use Rattle.record.specs.Reader.{Res, got, fault}
 use Rattle.record.specs.Typing.{accept}
-use Rattle.record.specs.declared.Refusal.{Refusal}
+use Rattle.std.specs.Prelude.{Result, Ok, Err}
+use Rattle.record.specs.declared.Fault.{Fault}
 use Rattle.record.specs.Answer.{Returned, number}
-use Rattle.numbering.specs.declared.Rewritten.{Rewritten}
-use Rattle.numbering.specs.declared.Rewritten.TheVariants.{Written, Refused, Room}
+use Rattle.numbering.specs.declared.Totals.{Totals}
+use Rattle.numbering.specs.declared.RewriteError.{RewriteError}
+use Rattle.numbering.specs.declared.RewriteError.TheVariants.{Refused, Room}
 use Rattle.numbering.specs.Made.{made}
-use Rattle.numbering.specs.Rewrite.{rewrite_answer, rewritten_bytes, rewrite_result, rewrite_output, rewrite, rewrite_leaves}
+use Rattle.numbering.specs.Rewrite.{Rewritten, totals, rewrite_answer, rewritten_bytes, rewrite_result, rewrite_output, rewrite, rewrite_leaves}
 use Rattle.numbering.specs.Program.{most_input, buffer_size, refused_line, shown, output_with, program_output}
 use Rattle.write_bytes.specs.Put.{Wrote}
 use Rattle.write_bytes.proofs.Put.{length_put, put_first}
@@ -26,8 +28,8 @@ use Rattle.write_bytes.proofs.Put.{length_put, put_first}
 -- of a record with these bytes; t: whether it has no room
 shown_same :
     (new b c : List ℕ) (k : ℕ) (t : Bool) →
-    shown (cond t (Room (length new)) (Written (length new) k)) (cond t b (new ++ drop (length new) b)) ≡
-    shown (cond t (Room (length new)) (Written (length new) k)) (cond t c (new ++ drop (length new) c))
+    shown (cond t (Err (Room (length new))) (Ok (totals (length new) k))) (cond t b (new ++ drop (length new) b)) ≡
+    shown (cond t (Err (Room (length new))) (Ok (totals (length new) k))) (cond t c (new ++ drop (length new) c))
 unfolding shown
 shown_same new b c k true = refl
 shown_same new b c k false = take-append_seam new (drop (length new) b) ∙ sym (take-append_seam new (drop (length new) c))
@@ -69,24 +71,24 @@ unfolding output_with
 prints_answer b s a l h e = sym (program_prints b s l) ∙ rw (le-ltb most_input (length s) h, e)
 
 pub prints_refused :
-    (b s : List ℕ) (k : Refusal) (o n : ℕ) →
+    (b s : List ℕ) (f : Fault) (n : ℕ) →
     length b ≡ buffer_size →
     length s ≤ most_input →
-    rewrite s b ≡ Refused k o →
-    n ≡ number k →
-    program_output s ≡ refused_line (record { number = n; values = o ∷ [] })
+    rewrite s b ≡ Err (Refused f) →
+    n ≡ number f.refusal →
+    program_output s ≡ refused_line (record { number = n; values = f.offset ∷ [] })
 unfolding shown rewrite_answer
-prints_refused b s k o n l h e f =
-    prints_answer b s (Refused k o) l h e ∙ ap (λ (m : ℕ). refused_line (record { number = m; values = o ∷ [] })) (sym f)
+prints_refused b s f n l h e g =
+    prints_answer b s (Err (Refused f)) l h e ∙ ap (λ (m : ℕ). refused_line (record { number = m; values = f.offset ∷ [] })) (sym g)
 
 pub prints_room :
     (b s : List ℕ) (n : ℕ) →
     length b ≡ buffer_size →
     length s ≤ most_input →
-    rewrite s b ≡ Room n →
+    rewrite s b ≡ Err (Room n) →
     program_output s ≡ refused_line (record { number = 9; values = n ∷ [] })
 unfolding shown rewrite_answer
-prints_room b s n l h e = prints_answer b s (Room n) l h e
+prints_room b s n l h e = prints_answer b s (Err (Room n)) l h e
 
 -- ---- what stands in the buffer
 -- m: the buffer after the line, or the rewriting, was put there
@@ -109,39 +111,33 @@ prints_line s l {m} {r} a e w h =
     (omega arith, ap (λ (k : ℕ). take k m) n ∙ ap (take (length t)) p ∙ take-append_seam t (drop (length t) l) ∙ sym e)
 
 -- a rewriting: what is written fits
-written_by : (room m j n k : ℕ) (t : Bool) → ltb room m ≡ t → cond t (Room m) (Written m j) ≡ Written n k → n ≤ room
-written_by room m j n k true q e = clash (cc)
-written_by room m j n k false q e =
-    let f : m ≡ n = cc in
+written_by : (room m j : ℕ) (r : Totals) (t : Bool) → ltb room m ≡ t → ◌≡◌ {A = Rewritten} (cond t (Err (Room m)) (Ok (totals m j))) (Ok r) → r.bytes ≤ room
+written_by room m j r true q e = clash (cc)
+written_by room m j r false q e =
+    let g : totals m j ≡ r = cc in
+    let f : m ≡ r.bytes = ap (λ (x : Totals). x.bytes) g in
     let h : m ≤ room = ltb-false room m q in
     omega arith
 
-written_fits : (s b : List ℕ) (n k : ℕ) → rewrite s b ≡ Written n k → n ≤ length b
+written_fits : (s b : List ℕ) (r : Totals) → rewrite s b ≡ Ok r → r.bytes ≤ length b
 unfolding rewrite rewrite_result
-written_fits s b n k e = go (accept limits s) e
+written_fits s b r e = go (accept limits s) e
   where
-    go : (v : Res (Record Placed)) → rewrite_result (length b) v ≡ Written n k → n ≤ length b
+    go : (v : Res (Record Placed)) → rewrite_result (length b) v ≡ Ok r → r.bytes ≤ length b
     go (fault f o) q = clash (cc)
-    go (got r p) q =
-        let m = length (rewritten_bytes r) in
-        written_by (length b) m (length (made (plain r))) n k (ltb (length b) m) refl q
+    go (got x p) q =
+        let m = length (rewritten_bytes x) in
+        written_by (length b) m (length (made (plain x))) r (ltb (length b) m) refl q
 
 pub prints_rewriting :
-    (b s : List ℕ) {m : List ℕ} (n k : ℕ) →
+    (b s : List ℕ) {m : List ℕ} (r : Totals) →
     length b ≡ buffer_size →
     length s ≤ most_input →
-    rewrite s b ≡ Written n k →
+    rewrite s b ≡ Ok r →
     m ≡ rewrite_leaves s b →
     length m ≡ length b →
-    Prints s n m
+    Prints s r.bytes m
 unfolding shown
-prints_rewriting b s {m} n k l h e f q =
-    let g : n ≤ length b = written_fits s b n k e in
-    (omega arith, ap (take n) f ∙ sym (prints_answer b s (Written n k) l h e))
-
--- ---- the first bytes of an input that is a byte longer than the longest
-pub first_within : (n : ℕ) (s : List ℕ) → n ≤ most_input → length (take n s) ≤ most_input
-first_within n s h = omega (arith, length-take n s)
-
-pub first_many : (n : ℕ) (s : List ℕ) → length s ≡ most_input + 1 → most_input < n → most_input < length (take n s)
-first_many n s e h = omega (arith, length-take n s)
+prints_rewriting b s {m} r l h e f q =
+    let g : r.bytes ≤ length b = written_fits s b r e in
+    (omega arith, ap (take r.bytes) f ∙ sym (prints_answer b s (Ok r) l h e))

@@ -8,8 +8,8 @@ use lib.ListN.{length, take, replicate, length-replicate}
 use lib.Seq.{sets}
 use lib.Dec.{ltb}
 use borrow.Author.Tests.{lt-ltb, le-ltb}
-use Rattle.record.specs.declared.Refusal.{Refusal}
-use Rattle.record.specs.declared.Checked.TheVariants as answer
+use Rattle.std.specs.Prelude.{Ok, Err}
+use Rattle.record.specs.declared.Fault.{Fault}
 use Rattle.record.specs.Record.{Placed, Record, plain, limits}
 use Rattle.record.specs.Reader.{got}
 use Rattle.record.specs.Read.{read}
@@ -21,9 +21,9 @@ use Rattle.record.proofs.Typed.{accept_typed}
 use Rattle.record.proofs.Again.{record_again, few_names, record_ok}
 use Rattle.record.proofs.Judged.{accepted_as, refused_as}
 use Rattle.record.proofs.ReadSize.{read_size}
-use Rattle.numbering.specs.declared.Rewritten.TheVariants.{Written, Refused, Room}
+use Rattle.numbering.specs.declared.RewriteError.TheVariants.{Refused, Room}
 use Rattle.numbering.specs.Made.{made}
-use Rattle.numbering.specs.Rewrite.{rewritten_bytes, rewrite_result, rewrite_output, rewrite, rewrite_leaves}
+use Rattle.numbering.specs.Rewrite.{totals, rewritten_bytes, rewrite_result, rewrite_output, rewrite, rewrite_leaves}
 use Rattle.numbering.proofs.Size.{rewriting_size}
 use Rattle.write_bytes.specs.Put.{put}
 use Rattle.write_bytes.proofs.Put.{put_first}
@@ -32,7 +32,7 @@ use Rattle.read_layout.specs.Layout.{types_from, places_from, NamesAt, layout_of
 use Rattle.read_layout.proofs.Tables.{types_hold, places_hold}
 use Rattle.rewrite.specs.Parts.{rewriting_in}
 
-module _ (s : List ℕ) (h : checked s ≡ answer.Accepted) where
+module _ (s : List ℕ) (h : checked s ≡ Ok tt) where
   reads : read limits s 0 ≡ got (record_from s) (accepted_as s h).behind
   reads = (accept_typed limits s _ _ (accepted_as s h).got).reads
 
@@ -79,14 +79,14 @@ module _ (s : List ℕ) (h : checked s ≡ answer.Accepted) where
   accepted_output out = sym (ap (rewrite_output out) (accepted_as s h).got)
 
 -- ---- a refusal of check
-module _ (s : List ℕ) (k : Refusal) (o : ℕ) (h : checked s ≡ answer.Refused k o) (out : List ℕ) where
-  pub refused_result : Refused k o ≡ rewrite s out
+module _ (s : List ℕ) (f : Fault) (h : checked s ≡ Err f) (out : List ℕ) where
+  pub refused_result : Err (Refused f) ≡ rewrite s out
   unfolding rewrite rewrite_result
-  refused_result = sym (ap (rewrite_result (length out)) (refused_as s k o h))
+  refused_result = sym (ap (rewrite_result (length out)) (refused_as s f h))
 
   pub refused_output : out ≡ rewrite_leaves s out
   unfolding rewrite_leaves rewrite_output
-  refused_output = sym (ap (rewrite_output out) (refused_as s k o h))
+  refused_output = sym (ap (rewrite_output out) (refused_as s f h))
 
 -- ---- written, or too little room; n: the bytes needed
 module _ (s : List ℕ) (n : ℕ) (size : n ≡ length (bytes (rewriting_in s))) (out : List ℕ) where
@@ -96,9 +96,9 @@ module _ (s : List ℕ) (n : ℕ) (size : n ≡ length (bytes (rewriting_in s)))
   long : n ≤ length out → ltb (length out) (length (bytes (rewriting_in s))) ≡ false
   long l = le-ltb (length out) (length (bytes (rewriting_in s))) (omega (arith, size, l))
 
-  pub room_result : length out < n → Room n ≡ rewrite_result (length out) (got (record_from s) 0)
+  pub room_result : length out < n → Err (Room n) ≡ rewrite_result (length out) (got (record_from s) 0)
   unfolding rewrite_result rewritten_bytes
-  room_result l = rw (short l) (ap Room size)
+  room_result l = rw (short l) (ap (λ m. Err (Room m)) size)
 
   pub room_output : length out < n → out ≡ rewrite_output out (got (record_from s) 0)
   unfolding rewrite_output rewritten_bytes
@@ -106,9 +106,9 @@ module _ (s : List ℕ) (n : ℕ) (size : n ≡ length (bytes (rewriting_in s)))
 
   pub written_result :
       {k : ℕ} → n ≤ length out → k ≡ length (made (record_in s)) →
-      Written n k ≡ rewrite_result (length out) (got (record_from s) 0)
+      Ok (totals n k) ≡ rewrite_result (length out) (got (record_from s) 0)
   unfolding rewrite_result rewritten_bytes
-  written_result l e = rw (long l) (λ i. Written (size i) (e i))
+  written_result l e = rw (long l) (λ i. Ok (totals (size i) (e i)))
 
   pub written_output :
       {out' : List ℕ} → n ≤ length out → out' ≡ put out 0 (bytes (rewriting_in s)) → out' ≡ rewrite_output out (got (record_from s) 0)

@@ -3,14 +3,14 @@ use Rattle.std.specs.Prelude.{ℕ, ◌*◌, ◌≤◌, List, [], ◌∷◌, map,
 use Rattle.record.specs.Record.{Instr, Record, id_bytes}
 use Rattle.record.specs.Reader.{got, num_at}
 use Rattle.record.specs.Write.{be, join, name_bytes, block_bytes}
-use Rattle.record.specs.Sizes.{most_body, most_numbers}
+use Rattle.record.specs.Sizes.{most_body}
 use Rattle.record.specs.Decode.{names_count, record_from}
 use Rattle.record.specs.Again.{record_in, types_in, Reads}
 use Rattle.numbering.specs.Made.{made, rewriting}
-use Rattle.numbering.specs.Rewrite.{rewrite_result, rewrite_output}
+use Rattle.numbering.specs.Rewrite.{Rewritten, rewrite_result, rewrite_output}
 use Rattle.numbering.specs.Figures.{instructions}
-use Rattle.numbering.specs.declared.Rewritten.{Rewritten}
-use Rattle.read_layout.specs.Layout.{NamesAt}
+use Rattle.read_layout.specs.Layout.{NamesAt, layout_of}
+use Rattle.lvn_blocks.specs.declared.Source.{Source}
 use Rattle.lvn_blocks.specs.Block.{indexes}
 
 -- the rewriting of the record that stands in these bytes
@@ -39,19 +39,25 @@ longest_blocks = 2000000
 abbrev pub longest_rewriting : ℕ
 longest_rewriting = 7000000
 
--- what is known of s and its names while it is rewritten
-pub record Typed (s ts ps : List ℕ) (end : ℕ) : Type 0 where
-  pub reads : Reads s end
-  pub types : ts ≡ types_in s
-  pub places : NamesAt s ps (names_count s)
+-- how many saves a record can have: those of 64 blocks
+abbrev pub most_saves : ℕ
+most_saves = 16384
 
--- what numbering its blocks is lent: the types, the table of numbered values, and a table for what each K saves
-pub record Lent (s ts hs ns ms : List ℕ) (end : ℕ) : Type 0 where
-  pub reads : Reads s end
-  pub types : ts ≡ types_in s
-  pub heads : most_numbers ≤ length hs
-  pub nums : most_numbers ≤ length ns
-  pub names : most_body * num_at s end 2 ≤ length ms
+-- what is known of a record that is laid open
+pub record Opened (x : Source) : Type 0 where
+  pub reads : Reads x.reads.now x.layout.end
+  pub layout : x.layout ≡ layout_of x.reads.now
+  pub types : x.types.now ≡ types_in x.reads.now
+
+-- and of the places of its names
+pub record Typed (x : Source) : Type 0 where
+  pub opened : Opened x
+  pub places : NamesAt x.reads.now x.places.now (names_count x.reads.now)
+
+-- what numbering its blocks is lent beside it: a table for what each K saves
+pub record Lent (x : Source) (ms : List ℕ) : Type 0 where
+  pub opened : Opened x
+  pub names : most_body * num_at x.reads.now x.layout.end 2 ≤ length ms
 
 -- the answer and what it leaves of an output are those of the record that stands in these bytes
 abbrev pub Answered : List ℕ → List ℕ → Rewritten → List ℕ → Type 0

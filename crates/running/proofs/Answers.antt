@@ -8,7 +8,7 @@ use lib.ListN.{length, drop, length-append}
 use lib.Dec.{ltb, leb, eqb}
 use borrow.Author.Tests.{lt-ltb, le-ltb}
 use Rattle.arith.specs.Value.{Val, type_of, in_range, has_type}
-use Rattle.record.specs.declared.Test.TheVariants.{Passes}
+use Rattle.std.specs.Prelude.{Ok}
 use Rattle.record.specs.declared.Refusal.TheVariants.{Limit}
 use Rattle.record.specs.Reader.{got, Reader, give, ◌>>=◌}
 use Rattle.record.specs.Write.{be, join}
@@ -23,7 +23,7 @@ use Rattle.running.proofs.House.{or_both, byte_is_type, byte_no_mark, behind_rea
 -- ---- one answer
 -- a value of some type that a name may have, go on, or halt
 abbrev pub Answerable : Answer → Type 0
-Answerable (value v) = (t : ℕ) × (type_test t ≡ Passes) × (has_type t v ≡ true)
+Answerable (value v) = (t : ℕ) × (type_test t ≡ Ok tt) × (has_type t v ≡ true)
 Answerable go_on = Unit {0}
 Answerable halt = Unit {0}
 
@@ -32,7 +32,7 @@ value_reads :
     in_range v ≡ true →
     eqb (type_byte v) go_on_byte ≡ false →
     eqb (type_byte v) halt_byte ≡ false →
-    answer_test (type_byte v) ≡ Passes →
+    answer_test (type_byte v) ≡ Ok tt →
     Reads house_answer at (value v) (value_bytes v)
 unfolding house_answer value_bytes answer_behind value_answer
 value_reads at v r m n k =
@@ -44,7 +44,7 @@ unfolding house_answer answer_bytes answer_behind answer_test be join
 answer_reads at (value v) h =
     let l : leb (type_of v % 16) 3 ≡ true = type_half h.0 v h.1 h.2 in
     let r : in_range v ≡ true = and_right (eqb (type_of v) h.0) (in_range v) h.2 in
-    let k : answer_test (type_byte v) ≡ Passes =
+    let k : answer_test (type_byte v) ≡ Ok tt =
     passes_need _ Limit
     (or_both (eqb (type_byte v) go_on_byte) _
     (or_both (eqb (type_byte v) halt_byte) (value_type (type_byte v)) (byte_is_type v l))) in

@@ -14,8 +14,11 @@ use Rattle.machine.specs.Machine.{Answer}
 use Rattle.record.specs.Record.{Record, Instr, Placed, Function, function, plain, names_of, limits, id_bytes}
 use Rattle.record.specs.Reader.{Res, got, fault}
 use Rattle.record.specs.Typing.{accept}
-use Rattle.running.specs.declared.Ran.{Ran}
-use Rattle.running.specs.declared.Ran.TheVariants.{Done, Refused, Unfit, Room}
+use Rattle.std.specs.Prelude.{Ok, Err}
+use Rattle.record.specs.Answer.{fault_at}
+use Rattle.running.specs.Engine.{Ran, done}
+use Rattle.record.specs.declared.Fault.{Fault}
+use Rattle.running.specs.declared.RunError.TheVariants.{Refused, Unfit, Room}
 use Rattle.running.specs.Steps.{Config}
 use Rattle.running.specs.House.{stored, answers}
 use Rattle.running.specs.Engine.{Outcome, refused, unfit, ran, running_for, lets_pass, with_inputs, with_read, with_record, outcome, ending_of, events_left, store_left, too_short, result, engine}
@@ -24,7 +27,7 @@ use Rattle.running.proofs.Engine.{Given, outcome_comes}
 module _ (s store list : List ℕ) (limit : ℕ) (events left : List ℕ) where
   -- "after check's refusals": whatever store and answers are
   pub engine_refuses :
-      (k : Refusal) (o : ℕ) → accept limits s ≡ fault k o → engine s store list limit events left ≡ Refused k o
+      (k : Refusal) (o : ℕ) → accept limits s ≡ fault k o → engine s store list limit events left ≡ Err (Refused (fault_at k o))
   unfolding engine outcome with_record result
   engine_refuses k o e = rw e
 
@@ -32,18 +35,18 @@ module _ (s store list : List ℕ) (limit : ℕ) (events left : List ℕ) where
   pub store_unread :
       (r : Record Placed) (p : ℕ) → accept limits s ≡ got r p →
       (k : Refusal) (o : ℕ) → stored (names_of (function (plain r))) store 0 ≡ fault k o →
-      engine s store list limit events left ≡ Unfit
+      engine s store list limit events left ≡ Err Unfit
   unfolding engine outcome with_record with_read result
   store_unread r p e k o h = rw (e, h)
 
   pub answers_unread :
       (r : Record Placed) (p : ℕ) → accept limits s ≡ got r p →
       (k : Refusal) (o : ℕ) → answers list 0 ≡ fault k o →
-      engine s store list limit events left ≡ Unfit
+      engine s store list limit events left ≡ Err Unfit
   unfolding engine outcome with_record with_read result
   answers_unread r p e k o h = rw (e, h) (go (stored (names_of (function (plain r))) store 0))
     where
-      go : (v : Res _) → result (length events) (length left) (with_read limit (plain r) v (fault k o)) ≡ Unfit
+      go : (v : Res _) → result (length events) (length left) (with_read limit (plain r) v (fault k o)) ≡ Err Unfit
       go (got vs q) = refl
       go (fault a b) = refl
 
@@ -67,7 +70,7 @@ module _ (s store list : List ℕ) (limit : ℕ) (events left : List ℕ) where
     given_outcome = rw (g.accepted, g.store_reads, g.list_reads)
 
     -- "a stored value is not of its name's type, or an answer taken within the limit does not fit its instruction"
-    pub engine_unfit : lets_pass limit f g.values g.told ≡ false → engine s store list limit events left ≡ Unfit
+    pub engine_unfit : lets_pass limit f g.values g.told ≡ false → engine s store list limit events left ≡ Err Unfit
     unfolding engine with_inputs result
     engine_unfit h = ap (result (length events) (length left)) given_outcome ∙ rw h
 
@@ -75,14 +78,14 @@ module _ (s store list : List ℕ) (limit : ℕ) (events left : List ℕ) where
     pub engine_room :
         lets_pass limit f g.values g.told ≡ true →
         too_short (length events) (length left) events_size store_size ≡ true →
-        engine s store list limit events left ≡ Room events_size store_size
+        engine s store list limit events left ≡ Err (Room events_size store_size)
     unfolding engine with_inputs result
     engine_room h k = ap (result (length events) (length left)) given_outcome ∙ rw (h, k)
 
     pub engine_done :
         lets_pass limit f g.values g.told ≡ true →
         too_short (length events) (length left) events_size store_size ≡ false →
-        engine s store list limit events left ≡ Done events_size store_size end_config.mach.steps (ending_of end_config.stand)
+        engine s store list limit events left ≡ done events_size store_size end_config.mach.steps (ending_of end_config.stand)
     unfolding engine with_inputs result
     engine_done h k = ap (result (length events) (length left)) given_outcome ∙ rw (h, k)
 
@@ -98,27 +101,27 @@ module _ (w N : ℕ) (c : Config) (room more : ℕ) where
   short = too_short room more e_size l_size
 
   abbrev told : Bool → Ran
-  told b = cond b (Room e_size l_size) (Done e_size l_size c.mach.steps (ending_of c.stand))
+  told b = cond b (Err (Room e_size l_size)) (done e_size l_size c.mach.steps (ending_of c.stand))
 
-  told_no_refusal : (b : Bool) (k : Refusal) (o : ℕ) {A : Type 0} → told b ≡ Refused k o → A
-  told_no_refusal true k o e = clash (cc e)
-  told_no_refusal false k o e = clash (cc e)
+  told_no_refusal : (b : Bool) (f : Fault) {A : Type 0} → told b ≡ Err (Refused f) → A
+  told_no_refusal true f e = clash (cc e)
+  told_no_refusal false f e = clash (cc e)
 
-  told_no_unfit : (b : Bool) {A : Type 0} → told b ≡ Unfit → A
+  told_no_unfit : (b : Bool) {A : Type 0} → told b ≡ Err Unfit → A
   told_no_unfit true e = clash (cc e)
   told_no_unfit false e = clash (cc e)
 
-  told_room : (b : Bool) (e l : ℕ) → told b ≡ Room e l → (b ≡ true) × (e_size ≡ e) × (l_size ≡ l)
+  told_room : (b : Bool) (e l : ℕ) → told b ≡ Err (Room e l) → (b ≡ true) × (e_size ≡ e) × (l_size ≡ l)
   told_room true e l h = (refl, cc h, cc h)
   told_room false e l h = clash (cc h)
 
-pub result_refused : (room more : ℕ) (x : Outcome) (k : Refusal) (o : ℕ) → result room more x ≡ Refused k o → x ≡ refused k o
+pub result_refused : (room more : ℕ) (x : Outcome) (f : Fault) → result room more x ≡ Err (Refused f) → x ≡ refused f.refusal f.offset
 unfolding result
-result_refused room more (refused a b) k o e = let p : a ≡ k = cc e in let q : b ≡ o = cc e in λ i. refused (p i) (q i)
-result_refused room more unfit k o e = clash (cc e)
-result_refused room more (ran w N c) k o e = told_no_refusal w N c room more (short w N c room more) k o e
+result_refused room more (refused a b) f e = let p : fault_at a b ≡ f = cc e in ap (λ (g : Fault). refused g.refusal g.offset) p
+result_refused room more unfit f e = clash (cc e)
+result_refused room more (ran w N c) f e = told_no_refusal w N c room more (short w N c room more) f e
 
-pub result_unfit : (room more : ℕ) (x : Outcome) → result room more x ≡ Unfit → x ≡ unfit
+pub result_unfit : (room more : ℕ) (x : Outcome) → result room more x ≡ Err Unfit → x ≡ unfit
 unfolding result
 result_unfit room more (refused k o) e = clash (cc e)
 result_unfit room more unfit e = refl
@@ -134,7 +137,7 @@ pub record Needs (room more : ℕ) (x : Outcome) (e l : ℕ) : Type 0 where
   pub store_count : length (store_left names config) ≡ l
   pub short : too_short room more e l ≡ true
 
-pub result_room : (room more : ℕ) (x : Outcome) (e l : ℕ) → result room more x ≡ Room e l → Needs room more x e l
+pub result_room : (room more : ℕ) (x : Outcome) (e l : ℕ) → result room more x ≡ Err (Room e l) → Needs room more x e l
 unfolding result
 result_room room more (refused k o) e l h = clash (cc h)
 result_room room more unfit e l h = clash (cc h)
@@ -170,11 +173,11 @@ module _ (s store list : List ℕ) (limit : ℕ) (events left : List ℕ) where
   record_refused k o (got r p) e = no_refusal (plain r) (stored (names_of (function (plain r))) store 0) (answers list 0) k o e
 
   -- check's refusals, exactly
-  pub refused_exactly : (k : Refusal) (o : ℕ) → (engine s store list limit events left ≡ Refused k o) ↔ (accept limits s ≡ fault k o)
+  pub refused_exactly : (f : Fault) → (engine s store list limit events left ≡ Err (Refused f)) ↔ (accept limits s ≡ fault f.refusal f.offset)
   unfolding engine outcome
-  refused_exactly k o = (
-    λ e. record_refused k o (accept limits s) (result_refused (length events) (length left) (outcome limits s store list limit) k o e),
-    engine_refuses s store list limit events left k o,
+  refused_exactly f = (
+    λ e. record_refused f.refusal f.offset (accept limits s) (result_refused (length events) (length left) (outcome limits s store list limit) f e),
+    engine_refuses s store list limit events left f.refusal f.offset,
   )
 
   -- 14, exactly: inputs that 13 lets pass, the bytes that the run's events and its store need, and one of them more than was lent
@@ -185,14 +188,14 @@ module _ (s store list : List ℕ) (limit : ℕ) (events left : List ℕ) where
     pub store_count : store_size s store list limit events left given ≡ l
     pub short : too_short (length events) (length left) e l ≡ true
 
-  pub room_exactly : (e l : ℕ) → (engine s store list limit events left ≡ Room e l) ↔ TooShort e l
+  pub room_exactly : (e l : ℕ) → (engine s store list limit events left ≡ Err (Room e l)) ↔ TooShort e l
   unfolding engine
   room_exactly e l = (
     λ h. to (result_room (length events) (length left) (outcome limits s store list limit) e l h),
     λ h.
         engine_room s store list limit events left h.given h.passed
         ((λ i. too_short (length events) (length left) (h.events_count i) (h.store_count i)) ∙ h.short)
-        ∙ λ i. Room (h.events_count i) (h.store_count i),
+        ∙ λ i. Err (Room (h.events_count i) (h.store_count i)),
   )
     where
       to : Needs (length events) (length left) (outcome limits s store list limit) e l → TooShort e l

@@ -15,7 +15,11 @@ use Rattle.record.specs.Reader.{Res, got, fault}
 use Rattle.record.specs.Typing.{accept}
 use Rattle.running.specs.declared.Ending.{Ending}
 use Rattle.running.specs.declared.Ending.TheVariants.{Limit}
-use Rattle.running.specs.declared.Ran.TheVariants.{Done, Room}
+use Rattle.std.specs.Prelude.{Ok, Err}
+use Rattle.record.specs.Answer.{fault_at}
+use Rattle.running.specs.Engine.{Ran, run_of, done}
+use Rattle.running.specs.declared.Run.{Run}
+use Rattle.running.specs.declared.RunError.TheVariants.{Refused, Unfit, Room}
 use Rattle.machine.specs.Machine.{Store, Context, plain_machine, Answer, value, go_on, halt, Event, Stop, at_end, at_ret, at_halt, at_unset, at_division, Mach, Step, ends, tick, happens, read_all, take_value, answered, perform, ask, acknowledged, tell, act, step, stopped, run}
 use Rattle.running.specs.Steps.{Stand, facing, over, Config, running, moved, step_from, take_step, steps, start}
 use Rattle.running.specs.House.{stored, answers, holding, values_from, store_bytes, events_bytes}
@@ -197,7 +201,7 @@ pub record Tells (room more : ℕ) (o : Outcome) (e l k : ℕ) (how : Ending) : 
 
 pub result_tells :
     (room more : ℕ) (o : Outcome) (e l k : ℕ) (how : Ending) →
-    result room more o ≡ Done e l k how →
+    result room more o ≡ done e l k how →
     Tells room more o e l k how
 unfolding result
 result_tells room more (refused a b) e l k how h = let z : ◌≡◌ {A = ℕ} 0 1 = cc h in absurd (omega arith)
@@ -207,21 +211,22 @@ result_tells room more (ran w N c) e l k how h =
   where
     go :
         (b : Bool) → too_short room more (length (events_left w c)) (length (store_left N c)) ≡ b →
-        cond b (Room (length (events_left w c)) (length (store_left N c)))
-        (Done (length (events_left w c)) (length (store_left N c)) c.mach.steps (ending_of c.stand)) ≡ Done e l k how →
+        cond b (Err (Room (length (events_left w c)) (length (store_left N c))))
+        (done (length (events_left w c)) (length (store_left N c)) c.mach.steps (ending_of c.stand)) ≡ done e l k how →
         Tells room more (ran w N c) e l k how
     go true x h = let z : ◌≡◌ {A = ℕ} 0 1 = cc h in absurd (omega arith)
     go false x h =
+        let q : run_of (length (events_left w c)) (length (store_left N c)) c.mach.steps (ending_of c.stand) ≡ run_of e l k how = cc h in
         record {
           width = w;
           names = N;
           config = c;
           comes = refl;
           enough = x;
-          events_count = cc h;
-          store_count = cc h;
-          steps_count = cc h;
-          ending = cc h;
+          events_count = ap (λ (r : Run). r.events) q;
+          store_count = ap (λ (r : Run). r.store) q;
+          steps_count = ap (λ (r : Run). r.steps) q;
+          ending = ap (λ (r : Run). r.ending) q;
         }
 
 -- "yields the events and the final store, with the bytes written of each, the steps and how it ended. It does what the plain machine does"
@@ -294,7 +299,7 @@ done_is_machine s store list limit events left e l k how t o =
 
 pub engine_is_machine :
     (s store list : List ℕ) (limit : ℕ) (events left : List ℕ) (e l k : ℕ) (how : Ending) →
-    engine s store list limit events left ≡ Done e l k how →
+    engine s store list limit events left ≡ done e l k how →
     IsMachine s store list limit events left e l k how
 unfolding engine
 engine_is_machine s store list limit events left e l k how h =

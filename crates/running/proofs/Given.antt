@@ -9,7 +9,7 @@ use lib.Dec.{ltb, leb, eqb}
 use borrow.Author.Tests.{lt-ltb, leb-true, eq-eqb, ne_eqb}
 use Rattle.arith.specs.Word.{W}
 use Rattle.arith.specs.Value.{Val, int, float, literal, char, bool, pointer, tint, tbool, tfloat, tchar, is_pointer, scalar, type_of, in_range}
-use Rattle.record.specs.declared.Test.TheVariants.{Passes}
+use Rattle.std.specs.Prelude.{Ok}
 use Rattle.record.specs.declared.Refusal.TheVariants.{Limit}
 use Rattle.record.specs.Record.{Bytes, Instr, Block}
 use Rattle.record.specs.Reader.{got, Reader, give, ◌>>=◌, field}
@@ -35,10 +35,10 @@ valued t v h e r = (t, passes_need (leb (t % 16) 3) Limit h, and_both (eqb (type
 module _ {s : List ℕ} (bytes : Bytes s) where
   -- ---- values
   word_gives :
-      (kind : ℕ) (f : ℕ → Val) → ((x : ℕ) → literal_test kind x ≡ Passes → x < 256 ^ 8 → Valued (f x)) → Gives s (word kind f) Valued
+      (kind : ℕ) (f : ℕ → Val) → ((x : ℕ) → literal_test kind x ≡ Ok tt → x < 256 ^ 8 → Valued (f x)) → Gives s (word kind f) Valued
   unfolding word
   word_gives kind f h =
-      let passes : Gives s (field 8 (literal_test kind)) (λ x. literal_test kind x ≡ Passes) = field_gives 8 (literal_test kind) in
+      let passes : Gives s (field 8 (literal_test kind)) (λ x. literal_test kind x ≡ Ok tt) = field_gives 8 (literal_test kind) in
       let small : Gives s (field 8 (literal_test kind)) (λ x. x < 256 ^ 8) = field_ranged bytes 8 (literal_test kind) in
       bind_gives _ (λ x. Valued (f x)) (record { gives = λ at x p e. h x (passes.gives at x p e) (small.gives at x p e) })
       (λ x v. give_gives Valued v)
@@ -76,7 +76,7 @@ module _ {s : List ℕ} (bytes : Bytes s) where
   unfolding value_answer
   value_answer_gives t h = bind_gives _ Valued (value_gives t h) (λ v k. give_gives Answerable k)
 
-  answer_behind_gives : (t : ℕ) → answer_test t ≡ Passes → Gives s (answer_behind t) Answerable
+  answer_behind_gives : (t : ℕ) → answer_test t ≡ Ok tt → Gives s (answer_behind t) Answerable
   unfolding answer_behind answer_test
   answer_behind_gives t h = go (eqb t go_on_byte) (eqb t halt_byte) (need_passes _ Limit h)
     where

@@ -10,7 +10,7 @@ use lib.Dec.{ltb, leb, eqb}
 use borrow.Author.Tests.{le-ltb, leb-true, eqb-true, eq-eqb, ne_eqb}
 use Rattle.arith.specs.Value.{Val, int, float, literal, char, bool, pointer, is_pointer, scalar, type_of, in_range, has_type}
 use Rattle.record.specs.declared.NameIx.{NameIx}
-use Rattle.record.specs.declared.Test.TheVariants.{Passes}
+use Rattle.std.specs.Prelude.{Ok}
 use Rattle.record.specs.declared.Refusal.TheVariants.{Limit}
 use Rattle.record.specs.Record.{nm, type_in}
 use Rattle.record.specs.Reader.{got, Reader, give, ◌>>=◌, field, times}
@@ -24,7 +24,7 @@ use Rattle.machine.specs.Machine.{Store}
 use Rattle.running.specs.House.{held, nothing_byte, value_type, word, two_words, plain_behind, value_behind, stored_test, set_behind, stored_behind, stored_value, form_test, in_form, stored, of_type, of_types, holding, values_from, type_byte, words, value_bytes, stored_bytes, form_bytes, store_bytes}
 
 -- ---- values
-word_reads : (kind : ℕ) (f : ℕ → Val) (at x : ℕ) → literal_test kind x ≡ Passes → Reads (word kind f) at (f x) (be 8 x)
+word_reads : (kind : ℕ) (f : ℕ → Val) (at x : ℕ) → literal_test kind x ≡ Ok tt → Reads (word kind f) at (f x) (be 8 x)
 unfolding word
 word_reads kind f at x h = last_reads f (field_reads 7 at x (literal_test kind) h)
 
@@ -73,9 +73,9 @@ byte_no_mark k (pointer t b o) l h = not_a_type k t (omega (arith, l)) h
 -- ---- items of a store
 -- a value of some type that a name may have, or nothing
 abbrev pub Storable : Option Val → Type 0
-Storable o = (t : ℕ) × (type_test t ≡ Passes) × (of_type t o ≡ true)
+Storable o = (t : ℕ) × (type_test t ≡ Ok tt) × (of_type t o ≡ true)
 
-pub type_half : (t : ℕ) (v : Val) → type_test t ≡ Passes → has_type t v ≡ true → leb (type_of v % 16) 3 ≡ true
+pub type_half : (t : ℕ) (v : Val) → type_test t ≡ Ok tt → has_type t v ≡ true → leb (type_of v % 16) 3 ≡ true
 unfolding type_test
 type_half t v h e =
     let p : type_of v ≡ t = eqb-true (type_of v) t (and_left (eqb (type_of v) t) (in_range v) e) in
@@ -86,7 +86,7 @@ set_reads :
     (at : ℕ) (v : Val) →
     in_range v ≡ true →
     eqb (type_byte v) nothing_byte ≡ false →
-    stored_test (type_byte v) ≡ Passes →
+    stored_test (type_byte v) ≡ Ok tt →
     Reads stored_value at (some v) (value_bytes v)
 unfolding stored_value value_bytes stored_behind set_behind
 set_reads at v r m k =
@@ -99,7 +99,7 @@ stored_reads at none h = bind_reads _ [] (field_reads 0 at nothing_byte stored_t
 stored_reads at (some v) h =
     let l : leb (type_of v % 16) 3 ≡ true = type_half h.0 v h.1 h.2 in
     let r : in_range v ≡ true = and_right (eqb (type_of v) h.0) (in_range v) h.2 in
-    let k : stored_test (type_byte v) ≡ Passes =
+    let k : stored_test (type_byte v) ≡ Ok tt =
     passes_need _ Limit (or_both (eqb (type_byte v) nothing_byte) (value_type (type_byte v)) (byte_is_type v l)) in
     set_reads at v r (byte_no_mark nothing_byte v (omega arith) l) k
 
@@ -137,7 +137,7 @@ in_form_reads r x items h =
 -- ---- the store
 -- types that names may have
 abbrev pub TypesPass : List ℕ → Type 0
-TypesPass ts = Each (λ left t. type_test t ≡ Passes) ts
+TypesPass ts = Each (λ left t. type_test t ≡ Ok tt) ts
 
 each_storable : (ts : List ℕ) (vs : List (Option Val)) → TypesPass ts → of_types ts vs ≡ true → Each (λ left o. Storable o) vs
 unfolding of_types

@@ -12,18 +12,18 @@ use lib.Seq.{drop-append_seam}
 use borrow.Author.Tests.{ltb-false}
 use Rattle.record.specs.Record.{function, plain, names_of, limits, id_bytes}
 use Rattle.running.specs.declared.Ending.{Ending}
-use Rattle.running.specs.declared.Ran.{Ran}
-use Rattle.running.specs.declared.Ran.TheVariants.{Done, Refused, Unfit, Room}
+use Rattle.std.specs.Prelude.{Ok, Err}
+use Rattle.record.specs.Answer.{fault_at}
+use Rattle.running.specs.Engine.{Ran, done}
+use Rattle.running.specs.declared.RunError.TheVariants.{Refused, Unfit, Room}
 use Rattle.running.specs.House.{values_from, store_bytes, events_bytes}
 use Rattle.running.specs.Engine.{Outcome, refused, unfit, ran, outcome, ending_of, events_left, store_left, too_short, result, written, events_out, store_out, engine, engine_events, engine_store}
 use Rattle.running.proofs.Engine.{engine_is_machine}
 
 -- ---- "Both write nothing."
 abbrev pub is_done : Ran → Bool
-is_done (Done e l k how) = true
-is_done (Refused k o) = false
-is_done Unfit = false
-is_done (Room e l) = false
+is_done (Ok r) = true
+is_done (Err e) = false
 
 outcome_untouched :
     (events left : List ℕ) (o : Outcome) →
@@ -38,8 +38,8 @@ outcome_untouched events left (ran w N c) h =
     go :
         (b : Bool) →
         is_done
-        (cond b (Room (length (events_left w c)) (length (store_left N c)))
-        (Done (length (events_left w c)) (length (store_left N c)) c.mach.steps (ending_of c.stand))) ≡ false →
+        (cond b (Err (Room (length (events_left w c)) (length (store_left N c))))
+        (done (length (events_left w c)) (length (store_left N c)) c.mach.steps (ending_of c.stand))) ≡ false →
         (cond b events (written (events_left w c) events) ≡ events) × (cond b left (written (store_left N c) left) ≡ left)
     go true h = (refl, refl)
     go false h = let z : ◌≡◌ {A = ℕ} 0 1 = cc h in absurd (omega arith)
@@ -86,19 +86,17 @@ module _ (s store list : List ℕ) (limit : ℕ) (events left : List ℕ) where
   untouched h = outcome_untouched events left (outcome limits s store list limit) h
 
   pub not_done_untouched :
-      ((e l k : ℕ) (how : Ending) → engine s store list limit events left ≢ Done e l k how) →
+      ((e l k : ℕ) (how : Ending) → engine s store list limit events left ≢ done e l k how) →
       (engine_events s store list limit events left ≡ events) × (engine_store s store list limit events left ≡ left)
   not_done_untouched h = untouched (go (engine s store list limit events left) h)
     where
-      go : (x : Ran) → ((e l k : ℕ) (how : Ending) → x ≢ Done e l k how) → is_done x ≡ false
-      go (Done e l k how) h = absurd (h e l k how refl)
-      go (Refused k o) h = refl
-      go Unfit h = refl
-      go (Room e l) h = refl
+      go : (x : Ran) → ((e l k : ℕ) (how : Ending) → x ≢ done e l k how) → is_done x ≡ false
+      go (Ok r) h = absurd (h r.events r.store r.steps r.ending refl)
+      go (Err e) h = refl
 
   -- "lent bytes beyond the events and the store are untouched": beyond as many as it says
   pub beyond_untouched :
-      (e l k : ℕ) (how : Ending) → engine s store list limit events left ≡ Done e l k how →
+      (e l k : ℕ) (how : Ending) → engine s store list limit events left ≡ done e l k how →
       (drop e (engine_events s store list limit events left) ≡ drop e events) ×
       (drop l (engine_store s store list limit events left) ≡ drop l left)
   beyond_untouched e l k how h =

@@ -15,7 +15,10 @@ use Rattle.record.specs.Reader.{Res, got, fault, times}
 use Rattle.record.specs.Typing.{accept}
 use Rattle.record.proofs.Gives.{Gives, any_gives, times_gives}
 use Rattle.machine.specs.Machine.{Store, Context, plain_machine, Answer, at_halt}
-use Rattle.running.specs.declared.Ran.TheVariants.{Unfit}
+use Rattle.std.specs.Prelude.{Ok, Err}
+use Rattle.record.specs.Answer.{fault_at}
+use Rattle.running.specs.Engine.{Ran, done}
+use Rattle.running.specs.declared.RunError.TheVariants.{Refused, Unfit, Room}
 use Rattle.running.specs.Steps.{Config, take_step, steps, start}
 use Rattle.running.specs.House.{stored_value, in_form, stored, answers, of_type, of_types}
 use Rattle.running.specs.Engine.{fits_at, unfit_within, unfit, ran, starting, running_for, with_inputs, with_read, with_record, outcome, engine}
@@ -155,13 +158,13 @@ module _ (s store list : List ℕ) (limit : ℕ) (r : Record Placed) where
 
     typed_or_not :
         (vs : List (Option Val)) (q : ℕ) → stored (names_of f) store 0 ≡ got vs q → of_types f.types vs ≡ false →
-        (a : Res (List Answer)) → answers list 0 ≡ a → engine s store list limit events left ≡ Unfit
+        (a : Res (List Answer)) → answers list 0 ≡ a → engine s store list limit events left ≡ Err Unfit
     typed_or_not vs q h e (fault k o) a = answers_unread s store list limit events left r p accepted k o a
     typed_or_not vs q h e (got xs o) a =
         let u = unfit_within (plain_machine f) f.blocks limit (starting f vs xs) in
         engine_unfit s store list limit events left (given vs q h xs o a) (ap (λ (b : Bool). b && not u) e)
 
-    why_unfit : WhyUnfit → engine s store list limit events left ≡ Unfit
+    why_unfit : WhyUnfit → engine s store list limit events left ≡ Err Unfit
     why_unfit (store_unreadable k o h) = store_unread s store list limit events left r p accepted k o h
     why_unfit (list_unreadable k o h) = answers_unread s store list limit events left r p accepted k o h
     why_unfit (not_of_type vs q h w) =
@@ -190,11 +193,11 @@ module _ (s store list : List ℕ) (limit : ℕ) (r : Record Placed) where
     read_why (got vs q) h (fault a b) k e = list_unreadable a b k
     read_why (fault a b) h list k e = store_unreadable a b h
 
-    unfit_why : engine s store list limit events left ≡ Unfit → WhyUnfit
+    unfit_why : engine s store list limit events left ≡ Err Unfit → WhyUnfit
     unfolding engine outcome with_record
     unfit_why e =
         let o : outcome limits s store list limit ≡ unfit = result_unfit (length events) (length left) (outcome limits s store list limit) e in
         read_why (stored (names_of f) store 0) refl (answers list 0) refl (ap (with_record limit store list) (sym accepted) ∙ o)
 
-    pub unfit_exactly : (engine s store list limit events left ≡ Unfit) ↔ WhyUnfit
+    pub unfit_exactly : (engine s store list limit events left ≡ Err Unfit) ↔ WhyUnfit
     unfit_exactly = (unfit_why, why_unfit)

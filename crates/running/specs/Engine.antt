@@ -1,6 +1,6 @@
 -- "An engine takes a record, a starting store, a list of answers and a step limit, and yields the events and the final store, with the
 -- bytes written of each, the steps and how it ended.": its answer and both outputs, as functions of what it is given and lent.
-use Rattle.std.specs.Prelude.{ℕ, zero, suc, Bool, true, false, cond, not, ◌&&◌, ◌||◌, List, [], ◌∷◌, ◌++◌, length, drop, ltb}
+use Rattle.std.specs.Prelude.{Result, Ok, Err, ℕ, zero, suc, Bool, true, false, cond, not, ◌&&◌, ◌||◌, List, [], ◌∷◌, ◌++◌, length, drop, ltb}
 use Rattle.std.proofs.Math.Option.{Option, none, some}
 use Rattle.arith.specs.Value.{Val, has_type}
 use Rattle.record.specs.declared.Limits.{Limits}
@@ -9,11 +9,12 @@ use Rattle.record.specs.Record.{Instr, Placed, Block, Record, Function, function
 use Rattle.record.specs.Form.{Form, pure, new, effect, return, nop, jump, branch, form}
 use Rattle.record.specs.Reader.{Res, got, fault}
 use Rattle.record.specs.Typing.{accept}
-use Rattle.record.specs.Answer.{Returned, success, refusal}
+use Rattle.record.specs.Answer.{Returned, success, refusal, fault_at}
 use Rattle.running.specs.declared.Ending.{Ending}
 use Rattle.running.specs.declared.Ending.TheVariants.{End, Ret, Halt, Unset, Division, Limit}
-use Rattle.running.specs.declared.Ran.{Ran}
-use Rattle.running.specs.declared.Ran.TheVariants.{Done, Refused, Unfit, Room}
+use Rattle.running.specs.declared.Run.{Run}
+use Rattle.running.specs.declared.RunError.{RunError}
+use Rattle.running.specs.declared.RunError.TheVariants.{Refused, Unfit, Room}
 use Rattle.machine.specs.Machine.{Context, plain_machine, Answer, value, go_on, halt, Stop, at_end, at_ret, at_halt, at_unset, at_division, Mach, read_all}
 use Rattle.running.specs.Steps.{Stand, facing, over, Config, take_step, steps, start}
 use Rattle.running.specs.House.{stored, answers, of_types, holding, values_from, store_bytes, events_bytes}
@@ -132,14 +133,25 @@ store_left N c = store_bytes (values_from c.mach.store 0 N)
 abbrev pub too_short : ℕ → ℕ → ℕ → ℕ → Bool
 too_short room more e l = ltb room e || ltb more l
 
+-- the answer of the engine: what the run comes to, or why nothing is written
+abbrev pub Ran : Type 0
+Ran = Result Run RunError
+
+-- e bytes of events, l of the store, k steps
+abbrev pub run_of : ℕ → ℕ → ℕ → Ending → Run
+run_of e l k how = record { events = e; store = l; steps = k; ending = how }
+
+abbrev pub done : ℕ → ℕ → ℕ → Ending → Ran
+done e l k how = Ok (run_of e l k how)
+
 -- room and more: the bytes lent for the events and for the store
 unfoldable pub result : ℕ → ℕ → Outcome → Ran
-result room more (refused k o) = Refused k o
-result room more unfit = Unfit
+result room more (refused k o) = Err (Refused (fault_at k o))
+result room more unfit = Err Unfit
 result room more (ran w N c) =
     let e = length (events_left w c) in
     let l = length (store_left N c) in
-    cond (too_short room more e l) (Room e l) (Done e l c.mach.steps (ending_of c.stand))
+    cond (too_short room more e l) (Err (Room e l)) (done e l c.mach.steps (ending_of c.stand))
 
 -- "Otherwise lent bytes beyond the events and the store are untouched."
 abbrev pub written : List ℕ → List ℕ → List ℕ
@@ -180,7 +192,7 @@ ending_values (Division id) = 4 ∷ id ∷ []
 ending_values Limit = 5 ∷ 0 ∷ []
 
 unfoldable pub engine_answer : Ran → Returned
-engine_answer (Done e l k how) = success (e ∷ l ∷ k ∷ ending_values how)
-engine_answer (Refused k o) = refusal k o
-engine_answer Unfit = record { number = 13; values = 0 ∷ [] }
-engine_answer (Room e l) = record { number = 14; values = e ∷ l ∷ [] }
+engine_answer (Ok r) = success (r.events ∷ r.store ∷ r.steps ∷ ending_values r.ending)
+engine_answer (Err (Refused f)) = refusal f
+engine_answer (Err Unfit) = record { number = 13; values = 0 ∷ [] }
+engine_answer (Err (Room e l)) = record { number = 14; values = e ∷ l ∷ [] }

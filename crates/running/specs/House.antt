@@ -2,7 +2,7 @@
 use Rattle.std.specs.Prelude.{ℕ, zero, suc, ◌%◌, List, [], ◌∷◌, ◌++◌, map, Bool, true, false, cond, not, ◌&&◌, ◌||◌, length, get_or, ltb, leb, eqb}
 use Rattle.std.proofs.Math.Option.{Option, none, some}
 use Rattle.arith.specs.Value.{Val, int, float, literal, char, bool, pointer, tint, tbool, tfloat, tchar, is_pointer, has_type}
-use Rattle.record.specs.declared.Test.{Test}
+use Rattle.record.specs.Reader.{Test}
 use Rattle.record.specs.declared.Refusal.TheVariants.{Version, Limit}
 use Rattle.record.specs.Record.{nm}
 use Rattle.record.specs.Reader.{Reader, give, ◌>>=◌, field, times}

@@ -5,9 +5,8 @@ use Rattle.record.specs.Record.{limits}
 use Rattle.record.specs.Reader.{num_at}
 use Rattle.record.specs.Write.{be, join}
 use Rattle.record.specs.Answer.{Returned}
-use Rattle.running.specs.declared.Ran.{Ran}
-use Rattle.running.specs.declared.Ran.TheVariants.{Done, Refused, Unfit, Room}
-use Rattle.running.specs.Engine.{Outcome, refused, unfit, ran, outcome, events_left, store_left, result, engine_answer}
+use Rattle.std.specs.Prelude.{Ok, Err}
+use Rattle.running.specs.Engine.{Ran, Outcome, refused, unfit, ran, outcome, events_left, store_left, result, engine_answer}
 
 -- the most bytes of its input, and what it lends for the events and for the store
 abbrev pub most_run_input : ℕ
@@ -39,10 +38,8 @@ bytes_left unfit = []
 bytes_left (ran w N c) = events_left w c ++ store_left N c
 
 unfoldable pub when_done : Ran → List ℕ → List ℕ
-when_done (Done e l k how) bs = bs
-when_done (Refused k o) bs = []
-when_done Unfit bs = []
-when_done (Room e l) bs = []
+when_done (Ok r) bs = bs
+when_done (Err e) bs = []
 
 abbrev pub ran_bytes : Ran → List ℕ → List ℕ
 ran_bytes a bs = returned_bytes (engine_answer a) ++ when_done a bs

@@ -1,10 +1,13 @@
 // Running an accession: definitions in specs/, and the types that they share with the code.
 #![tactic(auto)]
 
-use record::Refusal;
+ghost use Rattle.std.specs.Prelude.{◌≡◌};
+ghost use Rattle.running.specs.declared.RunError.TheVariants.{Refused};
+
+use record::Fault;
 
 // How a run ended: at the end, by ret, halt, unset or a division by zero, which is told by its id; or the limit is spent.
-#[derive(Clone, Copy)]
+#[derive(Clone, Copy, PartialEq, Eq, Debug)]
 pub enum Ending {
     End,
     Ret,
@@ -14,12 +17,27 @@ pub enum Ending {
     Limit,
 }
 
-// The answer of the engine: the bytes of the events and of the store, the steps, and how it ended; a refusal of check with its offset;
-// 13; 14, with the bytes that the events and the store need.
-#[derive(Clone, Copy)]
-pub enum Ran {
-    Done(usize, usize, u64, Ending),
-    Refused(Refusal, usize),
+// What a run comes to: the bytes of the events and of the store, the steps, and how it ended.
+#[derive(Clone, Copy, PartialEq, Eq, Debug)]
+pub struct Run {
+    pub events: usize,
+    pub store: usize,
+    pub steps: u64,
+    pub ending: Ending,
+}
+
+// Why the engine writes nothing: a refusal of check; 13; or 14, with the bytes that the events and the store need.
+#[derive(Clone, Copy, PartialEq, Eq, Debug)]
+pub enum RunError {
+    Refused(Fault),
     Unfit,
     Room(usize, usize),
+}
+
+impl From<Fault> for RunError {
+    ghost from_gives = { λ f e. e ≡ Refused f };
+
+    fn from(f: Fault) -> RunError {
+        RunError::Refused(f)
+    }
 }

@@ -1,67 +1,46 @@
--- Differences and quotients of words as the code has them: by a sum that wraps, and by sizes and signs.
-use Rattle.std.proofs.Common.{◌≡◌, ℕ, ◌+◌, ◌-◌, ◌/◌, ◌%◌, ◌<◌, ◌≤◌, Bool, true, false, cond, ◌≢◌, sym, ap, ◌∙◌, lt_of_le_of_lt, div-le_self, arith, le-leb}
-use mathlib.Core.Bool.{xor, beq}
-use mathlib.Core.Option.{none, some}
-use borrow.Author.Tests.{lt-leb}
-use Rattle.arith.proofs.Clash.{clash}
-use Rattle.arith.specs.Word.{W, least, sub_w, div_w, negative, size}
-use Rattle.arith.specs.Value.{int}
-use Rattle.arith.specs.Operation.{by_zero, divide}
-use Rattle.arith.proofs.Operation.{divide_others, divide_stops}
-use Rattle.words.specs.View.{result_of}
+-- The quotient and the order of ints, as those of the i64 whose words they are.
+use Rattle.std.proofs.Common.{◌≡◌, ℕ, zero, suc, ◌/◌, ◌<◌, ◌≤◌, ℤ, pos, negsuc, neg_ℤ, sym, ap, ap₂, ◌∙◌, refl, div-le_self, arith, w64, to_z, of_z}
+use lib.Signed.{mag, lt_z, quot_z}
+use mir.ValLaws.{to_z-Fits, of_z-to_z}
+use Rattle.arith.specs.Word.{W, least, div_w, lt_w}
+use Rattle.arith.proofs.Words.{div_w_word}
+use Rattle.arith.proofs.Signed.{word_of, div_w_wraps, lt_w_signed}
 
--- the number that b added to wraps back to a
-pub difference : (r a b : ℕ) → r < W → a < W → b < W → (r + b) % W ≡ a → r ≡ sub_w a b
-unfolding sub_w
-difference r a b h k l e = omega arith
+-- the word of an integer that a quotient can be
+minus_word : (q : ℕ) → q ≤ least → of_z w64 (neg_ℤ (pos q)) ≡ word_of (neg_ℤ (pos q))
+minus_word zero h = refl
+minus_word (suc q) h = omega arith
 
--- ---- sizes
-module _ (a : ℕ) where
-  pub size_negative : least ≤ a → a < W → sub_w 0 a ≡ size a
-  unfolding sub_w
-  size_negative h l = rw (le-leb least a h) (omega arith)
+quotient_word : (y z : ℤ) → mag y < least → of_z w64 (quot_z y z) ≡ word_of (quot_z y z)
+quotient_word (pos a) (pos b) h = let l = div-le_self a b in omega arith
+quotient_word (pos a) (negsuc b) h = minus_word (a / suc b) (let l = div-le_self a (suc b) in omega arith)
+quotient_word (negsuc a) (pos b) h = minus_word (suc a / b) (let l = div-le_self (suc a) b in omega arith)
+quotient_word (negsuc a) (negsuc b) h = let l = div-le_self (suc a) (suc b) in omega arith
 
-  pub size_positive : a < least → a ≡ size a
-  size_positive h = rw (lt-leb least a h)
+again : (n : ℕ) → n < W → of_z w64 (to_z w64 n) ≡ n
+again n h = of_z-to_z w64 n (record { fits = h })
 
-  pub size_not_zero : 0 < a → a < W → 0 < size a
-  size_not_zero h l = go (negative a)
-    where
-      go : (n : Bool) → 0 < cond n (W - a) a
-      go true = omega arith
-      go false = omega arith
+module _ (a b : ℕ) (h : a < W) (k : b < W) {x y : ℤ} (ex : x ≡ to_z w64 a) (ey : y ≡ to_z w64 b) where
+  -- what is read of a and b by way of x and y
+  read : {A : Type 0} (f : ℤ → ℤ → A) → f (to_z w64 (of_z w64 x)) (to_z w64 (of_z w64 y)) ≡ f (to_z w64 a) (to_z w64 b)
+  read f =
+      ap₂ (λ x y. f (to_z w64 (of_z w64 x)) (to_z w64 (of_z w64 y))) ex ey
+      ∙ ap₂ (λ m n. f (to_z w64 m) (to_z w64 n)) (again a h) (again b k)
 
--- ---- a quotient by its sign
-pub quotient_word : (m n : ℕ) → m < W → m / n < W
-quotient_word m n h = lt_of_le_of_lt (div-le_self m n) h
+  -- r is the word of the quotient q of x and y
+  pub quotient :
+      {r : ℕ} {q : ℤ} →
+      q ≡ to_z w64 (of_z w64 (quot_z (to_z w64 (of_z w64 x)) (to_z w64 (of_z w64 y)))) →
+      r ≡ of_z w64 (to_z w64 (of_z w64 q)) →
+      r ≡ div_w a b
+  quotient {q = q} eq er =
+      let small = (to_z-Fits w64 a (record { fits = h })).sfits in
+      let word : of_z w64 (quot_z (to_z w64 a) (to_z w64 b)) ≡ div_w a b =
+      quotient_word (to_z w64 a) (to_z w64 b) small ∙ sym (div_w_wraps a b h k) in
+      let same = again (div_w a b) (div_w_word a b) in
+      let whole : of_z w64 q ≡ div_w a b =
+      ap (of_z w64) (eq ∙ ap (λ n. to_z w64 (of_z w64 n)) (read quot_z) ∙ ap (to_z w64) word) ∙ same in
+      er ∙ ap (λ n. of_z w64 (to_z w64 n)) whole ∙ same
 
-module _ (a b q : ℕ) (e : q ≡ size a / size b) where
-  pub same_signs : q < W → beq (negative a) (negative b) ≡ true → q ≡ div_w a b
-  unfolding div_w xor
-  same_signs h s = go (negative a) (negative b) s ∙ ap (λ (k : ℕ). cond (xor (negative a) (negative b)) ((W - k) % W) (k % W)) e
-    where
-      go : (m n : Bool) → beq m n ≡ true → q ≡ cond (xor m n) ((W - q) % W) (q % W)
-      go true true f = omega arith
-      go false false f = omega arith
-      go true false f = clash (cc)
-      go false true f = clash (cc)
-
-  pub other_signs : beq (negative a) (negative b) ≡ false → sub_w 0 q ≡ div_w a b
-  unfolding div_w xor sub_w
-  other_signs s = go (negative a) (negative b) s ∙ ap (λ (k : ℕ). cond (xor (negative a) (negative b)) ((W - k) % W) (k % W)) e
-    where
-      go : (m n : Bool) → beq m n ≡ false → (0 + (W - q)) % W ≡ cond (xor m n) ((W - q) % W) (q % W)
-      go true false f = omega arith
-      go false true f = omega arith
-      go true true f = clash (cc)
-      go false false f = clash (cc)
-
--- ---- which divisions stop
-module _ (a b : ℕ) where
-  pub by_zero_stops : b ≡ 0 → none ≡ result_of (divide a b)
-  unfolding result_of
-  by_zero_stops e = sym (ap result_of ((divide_stops a b by_zero).1 e))
-
-  pub others_divide : b ≢ 0 → some (int (div_w a b)) ≡ result_of (divide a b)
-  unfolding result_of
-  others_divide h = sym (ap result_of (divide_others a b h))
+  pub order : lt_z (to_z w64 (of_z w64 x)) (to_z w64 (of_z w64 y)) ≡ lt_w a b
+  order = read lt_z ∙ sym (lt_w_signed a b h k)

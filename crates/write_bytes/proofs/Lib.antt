@@ -5,5 +5,4 @@ pub mod Stand
 pub mod Digits
 pub mod Made
 pub mod Parts
-pub mod Moved
 pub mod Copies

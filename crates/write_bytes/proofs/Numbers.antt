@@ -1,26 +1,16 @@
--- Big-endian numbers by halves, and the width of an id.
+-- Big-endian numbers by their bytes, and the width of an id.
 use Prim.Native.Nat.{ℕ, zero, suc, ◌+◌, ◌*◌, ◌/◌, ◌%◌, ◌^◌, ◌<◌, ◌≤◌}
 use mathlib.Core.Path.{◌≡◌, refl, sym, ap, ◌∙◌}
 use mathlib.Core.Logic.{inl, inr}
-use mathlib.Core.List.{List, ◌∷◌, ◌++◌}
+use mathlib.Core.List.{List, ◌∷◌}
 use native.Mathlib.Omega.{arith}
-use native.Mathlib.Nat.{add_assoc, add-mul, one-mul, mul_comm, mul_assoc, mul_right_comm, mul-le-mul_right, one-le-pow, pow-suc, mod-lt, mod-mod, mod-eq_of_lt, div-eq_of_lt, div-add-mod', div-div-eq-div-mul, mul-add-mod_self_right, mul-add-div_right}
+use native.Mathlib.Nat.{add_assoc, add-mul, one-mul, mul_comm, mul_assoc, mul-le-mul_right, one-le-pow, pow-suc, mod-lt, mod-mod, mod-eq_of_lt, div-eq_of_lt, div-add-mod', mul-add-mod_self_right, mul-add-div_right}
 use Rattle.record.specs.Record.{id_bytes}
 use Rattle.record.specs.Write.{be}
-use Rattle.write_bytes.specs.Put.{IdWidth}
+use Rattle.std.specs.Int.{bytes_high_first}
+use Rattle.write_bytes.specs.Put.{put, IdWidth}
 
--- ---- a number by two parts
--- suc a + suc b, as far as `be` looks
-abbrev both : ℕ → ℕ → ℕ
-both zero b = suc b
-both (suc a) b = suc (both a b)
-
-power_both : (a b : ℕ) → 256 ^ both a b ≡ 256 ^ a * 256 ^ suc b
-power_both zero b = sym (one-mul (256 ^ suc b))
-power_both (suc a) b =
-    pow-suc 256 (both a b) ∙ ap (λ (n : ℕ). n * 256) (power_both a b) ∙ mul_right_comm (256 ^ a) (256 ^ suc b) 256 ∙
-    ap (λ (n : ℕ). n * 256 ^ suc b) (sym (pow-suc 256 a))
-
+-- ---- digits in two bases
 -- the low digits of x in base p * q, by those in base p
 module _ (x q p : ℕ) (hq : 0 < q) (hp : 0 < p) where
   rest_under : x / p % q * p + x % p < q * p
@@ -48,30 +38,22 @@ module _ (x q p : ℕ) (hq : 0 < q) (hp : 0 < p) where
   mod_both_mod : x % (q * p) % p ≡ x % p
   mod_both_mod = ap (λ (n : ℕ). n % p) mod_both ∙ mul-add-mod_self_right (x / p % q) p (x % p) ∙ mod-mod x p
 
-be_append : (a b x : ℕ) → be (suc (both a b)) x ≡ be (suc a) (x / 256 ^ suc b) ++ be (suc b) (x % 256 ^ suc b)
+-- ---- the bytes of a number, as the integers' own `to_be_bytes` has them
+be_low : (w x : ℕ) → bytes_high_first (suc w) x ≡ be (suc w) (x % 256 ^ suc w)
 unfolding be
-be_append zero b x = refl
-be_append (suc a) b x =
-    let p = 256 ^ suc b in
-    let q = 256 ^ suc a in
-    let hp : 0 < p = one-le-pow (suc b) 256 (omega arith) in
-    let hq : 0 < q = one-le-pow (suc a) 256 (omega arith) in
-    let y = x % 256 ^ suc (both a b) in
-    let e : 256 ^ suc (both a b) ≡ q * p = power_both (suc a) b in
-    let d : x / 256 ^ suc (both a b) ≡ x / p / q = ap (λ (n : ℕ). x / n) (e ∙ mul_comm q p) ∙ sym (div-div-eq-div-mul x p q) in
-    let f : y / p ≡ x / p % q = ap (λ (n : ℕ). x % n / p) e ∙ mod_both_div x q p hq hp in
-    let g : y % p ≡ x % p = ap (λ (n : ℕ). x % n % p) e ∙ mod_both_mod x q p hq hp in
-    ap (λ (l : List ℕ). x / 256 ^ suc (both a b) ∷ l) (be_append a b y) ∙ rw (d, f, g)
+be_low zero x = refl
+be_low (suc w) x =
+    let p = 256 ^ suc w in
+    let hp : 0 < p = one-le-pow (suc w) 256 (omega arith) in
+    let e : 256 ^ suc (suc w) ≡ 256 * p = pow-suc 256 (suc w) ∙ mul_comm p 256 in
+    let f : x % 256 ^ suc (suc w) / p ≡ x / p % 256 = ap (λ (n : ℕ). x % n / p) e ∙ mod_both_div x 256 p (omega arith) hp in
+    let g : x % 256 ^ suc (suc w) % p ≡ x % p = ap (λ (n : ℕ). x % n % p) e ∙ mod_both_mod x 256 p (omega arith) hp in
+    ap (λ (l : List ℕ). x / p % 256 ∷ l) (be_low w x) ∙ rw (f, g)
 
--- two, four and eight bytes by halves
-pub be_2 : (x : ℕ) → be 2 x ≡ be 1 (x / 256) ++ be 1 (x % 256)
-be_2 x = be_append 0 0 x
-
-pub be_4 : (x : ℕ) → be 4 x ≡ be 2 (x / 65536) ++ be 2 (x % 65536)
-be_4 x = be_append 1 1 x
-
-pub be_8 : (x : ℕ) → be 8 x ≡ be 4 (x / 4294967296) ++ be 4 (x % 4294967296)
-be_8 x = be_append 3 3 x
+-- put in w bytes, from what is put by the bytes
+pub bytes_put :
+    (l : List ℕ) (i w x : ℕ) {m bs : List ℕ} → x < 256 ^ suc w → bs ≡ bytes_high_first (suc w) x → m ≡ put l i bs → m ≡ put l i (be (suc w) x)
+bytes_put l i w x h e p = p ∙ ap (put l i) (e ∙ be_low w x ∙ ap (be (suc w)) (mod-eq_of_lt h))
 
 -- ---- the width of an id
 pub width_four : {w : ℕ} → IdWidth w → (w ≡ 8 → ⊥) → w ≡ 4

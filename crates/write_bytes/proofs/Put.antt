@@ -103,7 +103,7 @@ unfolding put
 put_sets l i [] = refl
 put_sets l i (x ∷ xs) = ap (λ (k : ℕ). put (set l i x) k xs) (add-one i) ∙ put_sets (set l i x) (suc i) xs
 
-put_split : (l : List ℕ) (i : ℕ) (xs : List ℕ) → i + length xs ≤ length l → put l i xs ≡ take i l ++ (xs ++ drop (i + length xs) l)
+pub put_split : (l : List ℕ) (i : ℕ) (xs : List ℕ) → i + length xs ≤ length l → put l i xs ≡ take i l ++ (xs ++ drop (i + length xs) l)
 put_split l i xs h = put_sets l i xs ∙ sets-eq xs l i h ∙ append_assoc (take i l) xs (drop (i + length xs) l)
 
 -- what was written stands there

@@ -1,5 +1,5 @@
-// Writing to a lent slice. `put_u8` and `copy_bytes` leave out what would stand past the end, and the writers over them with it, so they
-// ask for no room, and over an empty slice they learn the size. Only `store_bytes` and `move_up` ask that what they write lies inside.
+// Writing to a lent slice. `put_bytes` leaves out what would stand past the end, and the writers over it with it, so they ask for no room,
+// and over an empty slice they learn the size. Only `move_up` asks that what it writes lies inside.
 #![tactic(auto)]
 
 ghost use Rattle.std.specs.Prelude.{◌≡◌, ◌+◌, ◌-◌, ◌^◌, ◌<◌, ◌≤◌, length, take, drop};
@@ -9,43 +9,52 @@ ghost use Rattle.read_fields.specs.Places.{places};
 ghost use Rattle.write_bytes.specs.Put.{put, Wrote, IdWidth, longest_text, most_made, most_digits};
 ghost use Rattle.write_bytes.specs.Stand.{Stand};
 
-// One byte.
-pub fn put_u8(out: &mut [u8], at: usize, x: u8)
-    ensures { out.new ≡ put out.old at (be 1 x) }
+// The bytes as far as they have room.
+#[inline(always)]
+fn put_bytes(out: &mut [u8], at: usize, bytes: &[u8])
+    ensures { out.new ≡ put out.old at bytes.now }
 {
-    if at < out.len() {
-        out[at] = x;
+    if at >= out.len() {
+        return;
+    }
+    let room = out.len() - at;
+    if bytes.len() <= room {
+        out[at..at + bytes.len()].copy_from_slice(bytes);
+    } else {
+        out[at..].copy_from_slice(&bytes[..room]);
     }
 }
 
-// Numbers of two, four and eight bytes, the first the greatest.
+// A number of one byte, of two, of four and of eight, the first the greatest: one function for each width, since over bytes alone every
+// caller would have to say which number they are.
+#[tactic(auto, unfolding(record::specs::Write::be))]
+pub fn put_u8(out: &mut [u8], at: usize, x: u8)
+    ensures { out.new ≡ put out.old at (be 1 x) }
+{
+    put_bytes(out, at, &[x]);
+}
+
 pub fn put_u16(out: &mut [u8], at: usize, x: u16)
-    requires { at + 1 < places }
     ensures { out.new ≡ put out.old at (be 2 x) }
 {
-    put_u8(out, at, (x / 256) as u8);
-    put_u8(out, at + 1, (x % 256) as u8);
+    put_bytes(out, at, &u16::to_be_bytes(x));
 }
 
 pub fn put_u32(out: &mut [u8], at: usize, x: u32)
-    requires { at + 3 < places }
     ensures { out.new ≡ put out.old at (be 4 x) }
 {
-    put_u16(out, at, (x / 65536) as u16);
-    put_u16(out, at + 2, (x % 65536) as u16);
+    put_bytes(out, at, &u32::to_be_bytes(x));
 }
 
 pub fn put_u64(out: &mut [u8], at: usize, x: u64)
-    requires { at + 7 < places }
     ensures { out.new ≡ put out.old at (be 8 x) }
 {
-    put_u32(out, at, (x / 4294967296) as u32);
-    put_u32(out, at + 4, (x % 4294967296) as u32);
+    put_bytes(out, at, &u64::to_be_bytes(x));
 }
 
 // x in w bytes: an id.
 pub fn put_word(out: &mut [u8], at: usize, w: usize, x: u64)
-    requires { (at + 7 < places) × (IdWidth w × (x < 256 ^ w)) }
+    requires { IdWidth w × (x < 256 ^ w) }
     ensures { out.new ≡ put out.old at (be w x) }
 {
     if w == 8 {
@@ -55,45 +64,13 @@ pub fn put_word(out: &mut [u8], at: usize, w: usize, x: u64)
     }
 }
 
-// How many of the n places from `at` on are below `end`.
-fn room_for(n: usize, at: usize, end: usize) -> usize
-    ensures { (result ≤ n) × ((result ≤ end - at) × ((n ≤ end - at → result ≡ n) × (end - at ≤ n → result ≡ end - at))) }
+// A text; the place behind it.
+pub fn put_text(out: &mut [u8], at: usize, text: &[u8]) -> usize
+    requires { at + length text.now < places }
+    ensures { Wrote out.old out.new at result text.now × (result ≡ at + length text.now) }
 {
-    if end <= at {
-        return 0;
-    }
-    if end - at < n {
-        return end - at;
-    }
-    n
-}
-
-// n bytes of src that are there and have room.
-fn store_bytes(src: &[u8], from: usize, n: usize, out: &mut [u8], at: usize)
-    requires { (n ≤ length src.now - from) × (n ≤ length out.old - at) }
-    ensures { out.new ≡ put out.old at (take n (drop from src.now)) }
-{
-    let mut p = from;
-    let mut q = at;
-    let mut left = n;
-    while left > 0 {
-        let x = src[p];
-        out[q] = x;
-        p += 1;
-        q += 1;
-        left -= 1;
-    }
-}
-
-// n bytes of src, or as many as there are; the place behind them.
-pub fn copy_bytes(src: &[u8], from: usize, n: usize, out: &mut [u8], at: usize) -> usize
-    requires { at + n < places }
-    ensures { Wrote out.old out.new at result (take n (drop from src.now)) × (result ≤ at + n) }
-{
-    let m = room_for(n, from, src.len());
-    let k = room_for(m, at, out.len());
-    store_bytes(src, from, k, out, at);
-    at + m
+    put_bytes(out, at, text);
+    at + text.len()
 }
 
 // How many decimal digits k has: four at a time, then by the powers of ten.
@@ -126,55 +103,39 @@ pub fn put_digits(out: &mut [u8], at: usize, k: u64) -> usize
     let n = count_digits(k);
     let end = at + n;
     let mut left = k;
-    let mut i = 0;
-    while i < n {
-        put_u8(out, end - 1 - i, 48 + (left % 10) as u8);
+    for i in (0..n).rev() {
+        put_u8(out, at + i, b'0' + (left % 10) as u8);
         left /= 10;
-        i += 1;
     }
     end
 }
 
-// The text of the name made with K = k of the n bytes of src: `_`, they, `_lvn` and the digits of k.
-fn put_made_text(out: &mut [u8], at: usize, src: &[u8], from: usize, n: usize, k: u64) -> usize
-    requires { (at + 255 < places) × ((n ≤ longest_text) × (k < most_made)) }
-    ensures { Wrote out.old out.new at result (made_text (take n (drop from src.now)) k) × (result ≤ at + 215) }
+// The text of the name made with K = k of one with this text: `_`, the text, `_lvn` and the digits of k.
+fn put_made_text(out: &mut [u8], at: usize, text: &[u8], k: u64) -> usize
+    requires { (at + 255 < places) × ((length text.now ≤ longest_text) × (k < most_made)) }
+    ensures { Wrote out.old out.new at result (made_text text.now k) × (result ≤ at + 215) }
 {
     put_u8(out, at, b'_');
-    let p = copy_bytes(src, from, n, out, at + 1);
+    let p = put_text(out, at + 1, text);
     put_u32(out, p, 0x5F6C766E);
     put_digits(out, p + 4, k)
 }
 
 // That name: its type, the length of its text, its text. The length is written behind the text.
-pub fn put_made(
-    out: &mut [u8],
-    at: usize,
-    ty: u8,
-    src: &[u8],
-    from: usize,
-    n: usize,
-    k: u64,
-) -> usize
-    requires { (at + 257 < places) × ((n ≤ longest_text) × (k < most_made)) }
-    ensures { Wrote out.old out.new at result
-        (name_bytes (record { type = ty; text = made_text (take n (drop from src.now)) k })) × (result ≤ at + 217) }
+pub fn put_made(out: &mut [u8], at: usize, ty: u8, text: &[u8], k: u64) -> usize
+    requires { (at + 257 < places) × ((length text.now ≤ longest_text) × (k < most_made)) }
+    ensures { Wrote out.old out.new at result (name_bytes (record { type = ty; text = made_text text.now k })) × (result ≤ at + 217) }
 {
     put_u8(out, at, ty);
-    let end = put_made_text(out, at + 2, src, from, n, k);
+    let end = put_made_text(out, at + 2, text, k);
     put_u8(out, at + 1, (end - at - 2) as u8);
     end
 }
 
-// Moves n bytes from a place to a later one, the last first.
+// Moves n bytes from a place to a later one.
 pub fn move_up(out: &mut [u8], from: usize, to: usize, n: usize)
     requires { (from ≤ to) × (to + n ≤ length out.old) }
     ensures { out.new ≡ put out.old to (take n (drop from out.old)) }
 {
-    let mut left = n;
-    while left > 0 {
-        left -= 1;
-        let x = out[from + left];
-        out[to + left] = x;
-    }
+    out.copy_within(from..from + n, to);
 }

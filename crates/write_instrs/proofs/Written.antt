@@ -1,37 +1,50 @@
 -- The parts of an instruction, written one behind the other, are its bytes.
-use Prim.Native.Nat.{ℕ, ◌+◌, ◌-◌, ◌<◌, ◌≤◌}
-use mathlib.Core.Path.{◌≡◌, refl, ap, ◌∙◌, subst}
-use mathlib.Core.List.{List, [], ◌∷◌, ◌++◌, map}
+use Prim.Native.Nat.{ℕ, ◌+◌, ◌<◌, ◌≤◌}
+use mathlib.Core.Path.{◌≡◌, refl, sym, ap, ◌∙◌, subst}
+use mathlib.Core.List.{List, [], ◌∷◌, ◌++◌, map, append_assoc, append-nil}
 use mathlib.Core.Bool.{Bool, true, false, not}
 use native.Mathlib.Omega.{arith}
-use lib.ListN.{length, get_or, take, drop, length-map}
-use lib.Seq.{length-take-le}
+use native.Mathlib.Numerals.{add-one}
+use lib.ListN.{length, get_or, take, drop, drop_of_length-le, length-map}
+use lib.Seq.{drop-cons}
+use Rattle.std.specs.Prelude.{Option}
+use Rattle.std.specs.Bool.{then_some}
 use Rattle.record.specs.declared.Shape.{Shape}
 use Rattle.record.specs.declared.Instruction.{Instruction}
-use Rattle.record.specs.Record.{nm, Lit}
+use Rattle.record.specs.Record.{nm, Lit, Instr}
 use Rattle.record.specs.Shape.{targets, shape_of}
 use Rattle.record.specs.Write.{be, join, when, index_bytes, literal_bytes, argument_bytes, operand_bytes, instr_bytes}
-use Rattle.record.specs.Answer.{literal_of}
 use Rattle.record.specs.View.{code_of, instr_of}
 use Rattle.write_bytes.specs.Put.{put, Wrote}
-use Rattle.write_bytes.proofs.Parts.{part_less}
-use Rattle.write_bytes.proofs.Wrote.{wrote_nothing, wrote_join, wrote_last, wrote_number}
+use Rattle.write_bytes.proofs.Wrote.{wrote_join, wrote_last, wrote_number, wrote_append}
+use Rattle.write_instrs.specs.There.{if_there, value_bytes}
 
 -- ---- a part that is there or not
-pub when_there : {l m : List ℕ} {i p : ℕ} (b : Bool) (bs : List ℕ) → b ≡ true → Wrote l m i p bs → Wrote l m i p (when b bs)
+there_when : {A : Type 0} (f : A → List ℕ) (b : Bool) (x : A) → if_there f (then_some b x) ≡ when b (f x)
 unfolding when
-when_there b bs e a = rw e a
+there_when f true x = refl
+there_when f false x = refl
 
-pub when_not : {l : List ℕ} {i : ℕ} (b : Bool) (bs : List ℕ) → b ≡ false → Wrote l l i i (when b bs)
-unfolding when
-when_not b bs e = rw e wrote_nothing
+module _ {l m : List ℕ} {i p : ℕ} (b : Bool) (x : Instr) where
+  pub literal_there : b ≡ true → Wrote l m i p (literal_bytes x.lit) → Wrote l m i p (value_bytes b x)
+  unfolding when
+  literal_there e w = rw (e, append-nil) w
+
+  pub args_there : b ≡ false → Wrote l m i p (argument_bytes x.args) → Wrote l m i p (value_bytes b x)
+  unfolding when
+  args_there e w = rw e w
 
 -- ---- numbers in a row
 pub row_less :
-    (xs : List ℕ) (i n : ℕ) → i < length xs → 0 < n →
-    join (map (be 2) (take n (drop i xs))) ≡ be 2 (get_or xs i 0) ++ join (map (be 2) (take (n - 1) (drop (i + 1) xs)))
+    (xs : List ℕ) (i : ℕ) → i < length xs →
+    join (map (be 2) (drop i xs)) ≡ be 2 (get_or xs i 0) ++ join (map (be 2) (drop (i + 1) xs))
 unfolding join
-row_less xs i n h k = ap (λ (l : List ℕ). join (map (be 2) l)) (part_less xs i n h k)
+row_less xs i h =
+    ap (λ (l : List ℕ). join (map (be 2) l)) (drop-cons xs i 0 h ∙ ap (λ (k : ℕ). get_or xs i 0 ∷ drop k xs) (sym (add-one i)))
+
+pub row_none : (xs : List ℕ) (i : ℕ) → length xs ≤ i → join (map (be 2) (drop i xs)) ≡ []
+unfolding join
+row_none xs i h = ap (λ (l : List ℕ). join (map (be 2) l)) (drop_of_length-le xs h)
 
 indexes : (xs : List ℕ) → map index_bytes (map nm xs) ≡ map (be 2) xs
 unfolding index_bytes
@@ -54,31 +67,39 @@ literal_wrote {l} {m} {r} {i} {k} {b} x e f g h =
     rw (d, e, f) at w
 
 pub args_wrote :
-    {l m r : List ℕ} {i p : ℕ} (n : ℕ) (xs : List ℕ) →
-    n ≤ length xs →
-    m ≡ put l i (be 1 n) →
-    Wrote m r (i + 1) p (join (map (be 2) (take n xs))) →
-    Wrote l r i p (argument_bytes (map nm (take n xs)))
+    {l m r : List ℕ} {i p : ℕ} (xs : List ℕ) →
+    m ≡ put l i (be 1 (length xs)) →
+    Wrote m r (i + 1) p (join (map (be 2) xs)) →
+    Wrote l r i p (argument_bytes (map nm xs))
 unfolding argument_bytes
-args_wrote n xs h a b =
-    let ys = take n xs in
-    let e : length (map nm ys) ≡ n = length-map ys nm ∙ length-take-le n xs h in
-    rw (e, indexes ys) (wrote_join (be 1 n) (join (map (be 2) ys) ∷ []) (wrote_number 1 n a) (wrote_last (join (map (be 2) ys)) b))
+args_wrote xs a b =
+    rw (length-map xs nm, indexes xs)
+    (wrote_join (be 1 (length xs)) (join (map (be 2) xs) ∷ []) (wrote_number 1 (length xs) a) (wrote_last (join (map (be 2) xs)) b))
 
 -- ---- all that stands behind the code
 pub operands_wrote :
-    {l m₁ m₂ m₃ m₄ r : List ℕ} {i p₁ p₂ p₃ p₄ p : ℕ} (sh : Shape) (x : Instruction) →
+    {l m₁ m₂ m₃ r : List ℕ} {i p₁ p₂ p₃ p : ℕ} {d c : Option ℕ} {n : ℕ} (sh : Shape) (x : Instruction) →
     sh ≡ shape_of (code_of x.op) →
-    Wrote l m₁ i p₁ (when sh.dest (be 2 x.dest.0)) →
-    Wrote m₁ m₂ p₁ p₂ (when sh.literal (literal_bytes (literal_of x.literal))) →
-    Wrote m₂ m₃ p₂ p₃ (when (not sh.literal) (argument_bytes (map nm (take x.count x.args)))) →
-    Wrote m₃ m₄ p₃ p₄ (when sh.callee (be 2 x.callee)) →
-    Wrote m₄ r p₄ p (join (map (be 2) (take (targets sh x.count) x.blocks))) →
+    d ≡ then_some sh.dest x.dest.0 →
+    c ≡ then_some sh.callee x.callee →
+    n ≡ targets sh x.count →
+    Wrote l m₁ i p₁ (if_there (be 2) d) →
+    Wrote m₁ m₂ p₁ p₂ (value_bytes sh.literal (instr_of x)) →
+    Wrote m₂ m₃ p₂ p₃ (if_there (be 2) c) →
+    Wrote m₃ r p₃ p (join (map (be 2) (take n x.blocks))) →
     Wrote l r i p (operand_bytes sh (instr_of x))
-unfolding operand_bytes instr_of index_bytes
-operands_wrote sh x e a b c d f =
-    wrote_join _ _ a (wrote_join _ _ b (wrote_join _ _ c (wrote_join _ _ d
-    (wrote_last _ (rw (ap (λ (t : Shape). take (targets t x.count) x.blocks) e) at f)))))
+unfolding operand_bytes instr_of index_bytes join
+operands_wrote {l} {m₁} {m₂} {m₃} {r} {i} {p₁} {p₂} {p₃} {p} sh x e dest callee many a b c f =
+    let v = instr_of x in
+    let targets_too : Wrote m₃ r p₃ p (join (map (be 2) (take (targets (shape_of (code_of x.op)) x.count) x.blocks))) =
+    subst (λ (k : ℕ). Wrote m₃ r p₃ p (join (map (be 2) (take k x.blocks)))) (many ∙ ap (λ (t : Shape). targets t x.count) e) f in
+    let callee_too : Wrote m₂ m₃ p₂ p₃ (when sh.callee (be 2 x.callee)) =
+    subst (Wrote m₂ m₃ p₂ p₃) (ap (if_there (be 2)) callee ∙ there_when (be 2) sh.callee x.callee) c in
+    let dest_too : Wrote l m₁ i p₁ (when sh.dest (be 2 x.dest.0)) =
+    subst (Wrote l m₁ i p₁) (ap (if_there (be 2)) dest ∙ there_when (be 2) sh.dest x.dest.0) a in
+    wrote_append _ _ dest_too
+    (subst (Wrote m₁ r p₁ p) (append_assoc (when sh.literal (literal_bytes v.lit)) (when (not sh.literal) (argument_bytes v.args)) _)
+    (wrote_append _ _ b (wrote_append _ _ callee_too (wrote_last _ targets_too))))
 
 pub instr_wrote :
     {l m n r : List ℕ} {i p : ℕ} (w code : ℕ) (sh : Shape) (x : Instruction) →

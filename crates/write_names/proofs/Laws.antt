@@ -1,19 +1,19 @@
 -- The place of a name and what stands there, the head, and made names one after the other.
-use Prim.Native.Nat.{ℕ, ◌+◌, ◌-◌, ◌<◌, ◌≤◌}
+use Prim.Native.Nat.{ℕ, ◌+◌, ◌<◌, ◌≤◌}
 use mathlib.Core.Path.{◌≡◌, refl, sym, ap, subst, ◌∙◌}
 use mathlib.Core.List.{List, [], ◌++◌, map}
 use native.Mathlib.Omega.{arith}
 use native.Mathlib.Numerals.{add-one}
-use lib.ListN.{length, get_or, take, drop, get_or-map}
+use lib.ListN.{length, get_or, take, drop, get_or-map, drop_of_length-le}
+use lib.Seq.{drop-cons, get_or-take, length-take-le}
 use Rattle.record.specs.Record.{nm, Name, plain, type_in}
 use Rattle.record.specs.Write.{be, join, name_bytes}
 use Rattle.record.specs.Decode.{items, behind, name_from, name_end, names_count, record_from}
 use Rattle.numbering.specs.Made.{made_text, made_name, made_names}
-use Rattle.write_names.specs.Named.{text_length}
+use Rattle.write_names.specs.Named.{text_length, Named}
 use Rattle.write_bytes.specs.Put.{put, Wrote, longest_text}
 use Rattle.record.proofs.Decode.{item_at}
 use Rattle.write_bytes.proofs.Wrote.{wrote_append, wrote_number}
-use Rattle.write_bytes.proofs.Parts.{part_less, part_none}
 
 -- ---- the head
 pub head_wrote :
@@ -64,27 +64,29 @@ text_short s x p n e f h =
     let g : get_or s (p + 1) 0 ≡ text_length s x = ap (λ (k : ℕ). get_or s (k + 1) 0) e in omega arith
 
 -- ---- the made names left to write, from the i-th of a row on
-abbrev pub names_left : List ℕ → List ℕ → ℕ → ℕ → List ℕ
-names_left s row i left =
-    join (map name_bytes (made_names (plain (record_from s)) i (map nm (take left (drop i row)))))
+abbrev pub names_left : List ℕ → List ℕ → ℕ → List ℕ
+names_left s row i = join (map name_bytes (made_names (plain (record_from s)) i (map nm (drop i row))))
 
 pub names_less :
-    (s row : List ℕ) (i left : ℕ) →
+    (s row : List ℕ) (i : ℕ) →
     i < length row →
-    0 < left →
-    names_left s row i left ≡
-    name_bytes (made_name (plain (record_from s)) i (nm (get_or row i 0))) ++ names_left s row (i + 1) (left - 1)
+    names_left s row i ≡ name_bytes (made_name (plain (record_from s)) i (nm (get_or row i 0))) ++ names_left s row (i + 1)
 unfolding join made_names
-names_less s row i left h j =
+names_less s row i h =
     let r = plain (record_from s) in
-    ap (λ (l : List ℕ). join (map name_bytes (made_names r i (map nm l)))) (part_less row i left h j) ∙
+    ap (λ (l : List ℕ). join (map name_bytes (made_names r i (map nm l)))) (drop-cons row i 0 h) ∙
     ap
-    (λ (k : ℕ).
-    name_bytes (made_name r i (nm (get_or row i 0))) ++
-    join (map name_bytes (made_names r k (map nm (take (left - 1) (drop (i + 1) row))))))
+    (λ (k : ℕ). name_bytes (made_name r i (nm (get_or row i 0))) ++ join (map name_bytes (made_names r k (map nm (drop k row)))))
     (sym (add-one i))
 
-pub names_none : (s row : List ℕ) (i left : ℕ) → left ≤ 0 → names_left s row i left ≡ []
+pub names_none : (s row : List ℕ) (i : ℕ) → length row ≤ i → names_left s row i ≡ []
 unfolding join made_names
-names_none s row i left h =
-    ap (λ (l : List ℕ). join (map name_bytes (made_names (plain (record_from s)) i (map nm l)))) (part_none row i left h)
+names_none s row i h =
+    ap (λ (l : List ℕ). join (map name_bytes (made_names (plain (record_from s)) i (map nm l)))) (drop_of_length-le row h)
+
+-- the first entries of a row by themselves
+pub named_front : (row : List ℕ) (k n : ℕ) → k ≤ length row → Named row k n → Named (take k row) (length (take k row)) n
+named_front row k n h named j l =
+    let t : length (take k row) ≡ k = length-take-le k row h in
+    let i : j < k = omega (arith, l, t) in
+    subst (λ (x : ℕ). x < n) (sym (get_or-take k row j 0 i)) (named j i)

@@ -1,5 +1,5 @@
 -- How many bytes a made name has, by the place of the name that it is made of, and made names one after the other.
-use Prim.Native.Nat.{ℕ, zero, suc, ◌+◌, ◌-◌, ◌<◌, ◌≤◌}
+use Prim.Native.Nat.{ℕ, zero, suc, ◌+◌, ◌<◌, ◌≤◌}
 use mathlib.Core.Path.{◌≡◌, sym, ap, ◌∙◌}
 use mathlib.Core.List.{List, [], ◌∷◌, ◌++◌}
 use native.Mathlib.Omega.{arith}
@@ -46,15 +46,15 @@ made_size s k x p n d j h ep en ed =
     e ∙ ap (λ (y : Name). length (name_bytes y)) (sym (made_at s k x j))
 
 -- ---- a loop over a row
-module _ (s row : List ℕ) (i left : ℕ) where
+module _ (s row : List ℕ) (i : ℕ) where
   pub size_less :
-      (size m : ℕ) → i < length row → 0 < left →
+      (size m : ℕ) → i < length row →
       m ≡ length (name_bytes (made_name (plain (record_from s)) i (nm (get_or row i 0)))) →
-      size + m + length (names_left s row (i + 1) (left - 1)) ≡ size + length (names_left s row i left)
-  size_less size m h j e =
+      size + m + length (names_left s row (i + 1)) ≡ size + length (names_left s row i)
+  size_less size m h e =
       let first = name_bytes (made_name (plain (record_from s)) i (nm (get_or row i 0))) in
-      let rest = names_left s row (i + 1) (left - 1) in
-      omega (arith, e, ap length (names_less s row i left h j), length-append first rest)
+      let rest = names_left s row (i + 1) in
+      omega (arith, e, ap length (names_less s row i h), length-append first rest)
 
-  pub size_none : (size : ℕ) → left ≤ 0 → size ≡ size + length (names_left s row i left)
-  size_none size h = omega (arith, ap length (names_none s row i left h))
+  pub size_none : (size : ℕ) → length row ≤ i → size ≡ size + length (names_left s row i)
+  size_none size h = omega (arith, ap length (names_none s row i h))

@@ -5,7 +5,7 @@ ghost use Rattle.std.specs.Prelude.{◌≡◌, ◌++◌, map, ◌+◌, ◌-◌, 
 ghost use Rattle.record.specs.Record.{nm, plain};
 ghost use Rattle.record.specs.Write.{be, join, name_bytes};
 ghost use Rattle.record.specs.Sizes.{places_end};
-ghost use Rattle.record.specs.Decode.{names_count, names_end, record_from};
+ghost use Rattle.record.specs.Decode.{behind, name_end, names_count, names_end, record_from};
 ghost use Rattle.read_fields.specs.Places.{places as all-places};
 ghost use Rattle.numbering.specs.Made.{made_name, made_names};
 ghost use Rattle.write_bytes.specs.Put.{Wrote, longest_text, most_made};
@@ -21,99 +21,92 @@ pub fn put_record_head(out: &mut [u8], version: u8, args: u8, names: u16)
     write_bytes::put_u16(out, 6, names);
 }
 
+// n bytes of s from a place on, or as many as there are.
+fn part(s: &[u8], from: usize, n: usize) -> &[u8]
+    ensures { result.now ≡ take n (drop from s.now) }
+{
+    let rest = &s[from.min(s.len())..];
+    &rest[..n.min(rest.len())]
+}
+
 // The input's names, the bytes from 8 to `end`; the place behind them.
 pub fn copy_names(s: &[u8], out: &mut [u8], end: usize) -> usize
     requires { (8 ≤ end) × (end < places_end) }
     ensures { Wrote out.old out.new 8 result (take (end - 8) (drop 8 s.now)) × (result ≤ end) }
 {
-    write_bytes::copy_bytes(s, 8, end - 8, out, 8)
-}
-
-// ---- where the names stand
-// A place of the table, as it is counted.
-fn place_of(x: u32) -> usize
-    ensures { (result ≡ x) × (result < places_end) }
-{
-    x as usize
-}
-
-// The place of the input's name x, by that table.
-fn name_place(places: &[u32], x: u16) -> usize
-    ensures { (result ≡ get_or places.now x 0) × (result < places_end) }
-{
-    let i = x as usize;
-    if i < places.len() {
-        return place_of(places[i]);
-    }
-    0
+    write_bytes::put_text(out, 8, part(s, 8, end - 8))
 }
 
 // ---- made names
-// The name made with K = k of the input's name x; the place behind it.
-fn put_made_name(out: &mut [u8], at: usize, s: &[u8], places: &[u32], x: u16, k: u64) -> usize
-    requires { (at + made_reach < all-places) × ((x < names_count s.now) × ((text_length s.now x ≤ longest_text) × ((k < most_made)
-        × NamesAt s.now places.now (names_count s.now)))) }
-    ensures { Wrote out.old out.new at result (name_bytes (made_name (plain (record_from s.now)) k (nm x)))
-        × (result ≤ at + longest_made) }
-{
-    let p = name_place(places, x);
-    let ty = read_fields::byte_or(s, p) as u8;
-    let n = read_fields::byte_or(s, p + 1) as usize;
-    write_bytes::put_made(out, at, ty, s, p + 2, n, k)
+// A record's bytes, and the table of the places of its names.
+#[derive(Clone, Copy)]
+pub struct Names<'a> {
+    pub bytes: &'a [u8],
+    pub places: &'a [u32],
+    ghost names_there: { NamesAt bytes.now places.now (names_count bytes.now) },
 }
 
-// The names made with K = 0 to count - 1, each of the input's name that `made` has at K; the place behind them.
-pub fn put_made_names(
-    out: &mut [u8],
-    at: usize,
-    s: &[u8],
-    places: &[u32],
-    made: &[u16],
-    count: usize,
-) -> usize
-    requires { (at < places_end) × ((count ≤ most_made) × ((count ≤ length made.now)
-        × (Named made.now count (names_count s.now) × (Short s.now (names_count s.now)
-        × NamesAt s.now places.now (names_count s.now))))) }
-    ensures { Wrote out.old out.new at result
-        (join (map name_bytes (made_names (plain (record_from s.now)) 0 (map nm (take count made.now)))))
-        × (result ≤ at + longest_made * count) }
-{
-    let mut p = at;
-    let mut i: usize = 0;
-    let mut left = count;
-    while left > 0 {
-        p = put_made_name(out, p, s, places, made[i], i as u64);
-        i += 1;
-        left -= 1;
+impl<'a> Names<'a> {
+    // The place of the name x, by the table.
+    fn place(self, x: u16) -> usize
+        requires { x < names_count self.bytes.now }
+        ensures { (result ≡ behind (name_end self.entry.bytes.now) 8 x) × (result < places_end) }
+    {
+        match self.places.get(x as usize) {
+            Some(p) => *p as usize,
+            None => 0,
+        }
     }
-    p
-}
 
-// ---- their sizes
-// How many bytes the name made with K = k of the input's name x has.
-fn made_name_size(s: &[u8], places: &[u32], x: u16, k: u64) -> usize
-    requires { (x < names_count s.now) × ((k < most_made)
-        × (NamesAt s.now places.now (names_count s.now) × (names_end s.now ≤ length s.now))) }
-    ensures { (result ≡ length (name_bytes (made_name (plain (record_from s.now)) k (nm x)))) × (result ≤ made_reach) }
-{
-    let p = name_place(places, x);
-    7 + (read_fields::byte_or(s, p + 1) as usize) + write_bytes::count_digits(k)
-}
-
-// How many bytes the names made with K = 0 to count - 1 have.
-pub fn made_size(s: &[u8], places: &[u32], made: &[u16], count: usize) -> usize
-    requires { (count ≤ most_made) × ((count ≤ length made.now) × (Named made.now count (names_count s.now)
-        × (NamesAt s.now places.now (names_count s.now) × (names_end s.now ≤ length s.now)))) }
-    ensures { (result ≡ length (join (map name_bytes (made_names (plain (record_from s.now)) 0 (map nm (take count made.now))))))
-        × (result ≤ made_reach * count) }
-{
-    let mut size: usize = 0;
-    let mut i: usize = 0;
-    let mut left = count;
-    while left > 0 {
-        size += made_name_size(s, places, made[i], i as u64);
-        i += 1;
-        left -= 1;
+    // The name made with K = k of the name x; the place behind it.
+    fn put_made_name(self, out: &mut [u8], at: usize, x: u16, k: u64) -> usize
+        requires { (at + made_reach < all-places) × ((x < names_count self.bytes.now) × ((text_length self.bytes.now x ≤ longest_text)
+            × (k < most_made))) }
+        ensures { Wrote out.old out.new at result (name_bytes (made_name (plain (record_from self.entry.bytes.now)) k (nm x)))
+            × (result ≤ at + longest_made) }
+    {
+        let p = self.place(x);
+        let ty = read_fields::byte_or(self.bytes, p) as u8;
+        let n = read_fields::byte_or(self.bytes, p + 1) as usize;
+        let text = part(self.bytes, p + 2, n);
+        write_bytes::put_made(out, at, ty, text, k)
     }
-    size
+
+    // The names made with K = 0, 1, .. of those in `made`; the place behind them.
+    pub fn put_made_names(self, out: &mut [u8], at: usize, made: &[u16]) -> usize
+        requires { (at < places_end) × ((length made.now ≤ most_made) × (Named made.now (length made.now) (names_count self.bytes.now)
+            × Short self.bytes.now (names_count self.bytes.now))) }
+        ensures { Wrote out.old out.new at result
+            (join (map name_bytes (made_names (plain (record_from self.entry.bytes.now)) 0 (map nm made.now))))
+            × (result ≤ at + longest_made * length made.now) }
+    {
+        let mut p = at;
+        for (k, x) in made.iter().enumerate() {
+            p = self.put_made_name(out, p, *x, k as u64);
+        }
+        p
+    }
+
+    // How many bytes the name made with K = k of the name x has.
+    fn made_name_size(self, x: u16, k: u64) -> usize
+        requires { (x < names_count self.bytes.now) × ((k < most_made) × (names_end self.bytes.now ≤ length self.bytes.now)) }
+        ensures { (result ≡ length (name_bytes (made_name (plain (record_from self.entry.bytes.now)) k (nm x)))) × (result ≤ made_reach) }
+    {
+        let p = self.place(x);
+        7 + (read_fields::byte_or(self.bytes, p + 1) as usize) + write_bytes::count_digits(k)
+    }
+
+    // How many bytes the names made with K = 0, 1, .. of those in `made` have.
+    pub fn made_size(self, made: &[u16]) -> usize
+        requires { (length made.now ≤ most_made) × (Named made.now (length made.now) (names_count self.bytes.now)
+            × (names_end self.bytes.now ≤ length self.bytes.now)) }
+        ensures { (result ≡ length (join (map name_bytes (made_names (plain (record_from self.entry.bytes.now)) 0 (map nm made.now)))))
+            × (result ≤ made_reach * length made.now) }
+    {
+        let mut size = 0;
+        for (k, x) in made.iter().enumerate() {
+            size += self.made_name_size(*x, k as u64);
+        }
+        size
+    }
 }

@@ -1,22 +1,33 @@
 -- `check_blocks::check_blocks` meets its contract: the rest from here gives the whole answer.
-use mathlib.Core.Path.{refl, sym, ◌∙◌}
+use Prim.Native.Nat.{◌+◌, ◌-◌}
+use mathlib.Core.Path.{◌≡◌, sym, ap, ◌∙◌}
 use native.Mathlib.Omega.{arith}
+use Rattle.record.specs.Reader.{times}
 use Rattle.record.specs.Read.{block}
-use Rattle.record.proofs.Following.{times_stopped, times_went, times_done}
+use Rattle.record.specs.Answer.{verdict}
+use Rattle.record.proofs.Following.{handed_on, times_stopped, times_went, times_done}
 use Rattle.check_blocks.proofs.check_blocks.Goals as goal
 
-pub loop-left-init : goal.loop-left-init
-loop-left-init c = refl
+pub loop-init : goal.loop-init
+loop-init c = let a = c.args in
+    ap (λ n. verdict (times n (λ k. block a.lim a.of.width a.of.names a.of.blocks) a.s.now a.at)) (omega arith)
 
-pub returns-in-Refused : goal.returns-in-Refused
-returns-in-Refused c = times_stopped (λ left. block _ _ _ _) _ _ _ c.loop-left-test.true _ _
-    (sym c.check_block.ensures ∙ c.in-Refused.is)
-    ∙ c.loop-left.invariant
+pub returns-in_err-p : goal.returns-in_err-p
+returns-in_err-p c = let a = c.args in
+    let l = c.loop in
+    handed_on c.from_residual.result c.in_err-p.field-0.0 c.from_residual.ensures.1
+    ∙ times_stopped (λ k. block a.lim a.of.width a.of.names a.of.blocks) a.s.now l.p (a.of.blocks - l.counter) (omega arith) _ (sym c.check_block.ensures ∙ c.in_err-p.was)
+    ∙ l.invariant
 
-pub loop-left-preserved : goal.loop-left-preserved
-loop-left-preserved c = times_went (λ left. block _ _ _ _) _ _ _ c.loop-left-test.true _
-    (sym c.check_block.ensures ∙ c.in-At.is)
-    ∙ c.loop-left.invariant
+pub loop-preserved : goal.loop-preserved
+loop-preserved c = let a = c.args in
+    let l = c.loop in
+    let one : a.of.blocks - (l.counter + 1) ≡ a.of.blocks - l.counter - 1 = omega arith in
+    ap (λ n. verdict (times n (λ k. block a.lim a.of.width a.of.names a.of.blocks) a.s.now c.in_ok-p.p)) one
+    ∙ times_went (λ k. block a.lim a.of.width a.of.names a.of.blocks) a.s.now l.p (a.of.blocks - l.counter) (omega arith) _ (sym c.check_block.ensures ∙ c.in_ok-p.was)
+    ∙ l.invariant
 
 pub returns : goal.returns
-returns c = times_done (λ left. block _ _ _ _) _ _ _ (omega arith) ∙ c.loop-left.invariant
+returns c = let a = c.args in
+    let l = c.loop in
+    times_done (λ k. block a.lim a.of.width a.of.names a.of.blocks) a.s.now l.p (a.of.blocks - l.counter) (omega arith) ∙ l.invariant

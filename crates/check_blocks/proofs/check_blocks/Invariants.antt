@@ -1,12 +1,12 @@
--- What the loop keeps, and its measure.
+-- What the loop keeps: the rest from here gives the whole answer.
+use Prim.Native.Nat.{◌-◌}
 use mathlib.Core.Path.{◌≡◌}
 use Rattle.record.specs.Reader.{times}
 use Rattle.record.specs.Answer.{verdict}
 use Rattle.record.specs.Read.{block}
 use Rattle.check_blocks.proofs.check_blocks.Given as goal
 
-abbrev pub invariant-loop-left : goal.invariant-loop-left
-invariant-loop-left l = (verdict (times l.left (λ _. block l.lim l.w l.n l.b) l.s l.p) ≡ verdict (times l.b (λ _. block l.lim l.w l.n l.b) l.s l.at))
-
-abbrev pub decreases-loop-left : goal.decreases-loop-left
-decreases-loop-left l = l.left
+abbrev pub invariant-loop : goal.invariant-loop
+invariant-loop l =
+    verdict (times (l.fn.of.blocks - l.counter) (λ k. block l.lim l.of.width l.of.names l.of.blocks) l.s l.p)
+    ≡ verdict (times l.fn.of.blocks (λ k. block l.lim l.of.width l.of.names l.of.blocks) l.s l.fn.at)

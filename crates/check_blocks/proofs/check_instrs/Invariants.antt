@@ -1,4 +1,5 @@
--- What the loop keeps, and its measure.
+-- What the loop keeps: the rest from here gives the whole answer.
+use Prim.Native.Nat.{◌-◌}
 use mathlib.Core.Path.{◌≡◌}
 use lib.Dec.{eqb}
 use Rattle.record.specs.Reader.{times}
@@ -6,9 +7,7 @@ use Rattle.record.specs.Answer.{verdict}
 use Rattle.record.specs.Read.{instr}
 use Rattle.check_blocks.proofs.check_instrs.Given as goal
 
-abbrev pub invariant-loop-left : goal.invariant-loop-left
-invariant-loop-left l = (verdict (times l.left (λ k. instr l.w l.n l.b (eqb k 0)) l.s l.p) ≡
-    verdict (times l.count (λ k. instr l.w l.n l.b (eqb k 0)) l.s l.at))
-
-abbrev pub decreases-loop-left : goal.decreases-loop-left
-decreases-loop-left l = l.left
+abbrev pub invariant-loop-i : goal.invariant-loop-i
+invariant-loop-i l =
+    verdict (times (l.fn.count - l.i) (λ k. instr l.of.width l.of.names l.of.blocks (eqb k 0)) l.s l.p)
+    ≡ verdict (times l.fn.count (λ k. instr l.of.width l.of.names l.of.blocks (eqb k 0)) l.s l.fn.at)

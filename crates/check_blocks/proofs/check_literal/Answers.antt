@@ -4,19 +4,19 @@ use Rattle.record.specs.Reader.{field}
 use Rattle.record.specs.Tests.{at_most, literal_test}
 use Rattle.record.specs.Answer.{verdict}
 use Rattle.record.specs.Read.{literal}
-use Rattle.record.proofs.Following.{read_no, read_is, made}
+use Rattle.record.proofs.Following.{handed_on, read_no, read_is, made}
 use Rattle.read_fields.specs.Answer.{res}
 use Rattle.check_blocks.proofs.check_literal.Goals as goal
 
-pub returns-in-Is : goal.returns-in-Is
+pub returns-in_err-kind : goal.returns-in_err-kind
 unfolding literal
-returns-in-Is c = let a = c.args in
-    read_is (field 1 (at_most 3)) _ a.s.now a.at _ _ _
-    (sym c.one_limited.ensures ∙ ap res
-    c.in-Is.is)
-    (c.verdict.ensures ∙ ap verdict c.bits_at.ensures ∙ sym (made (field 8 (literal_test _)) _ a.s.now _))
+returns-in_err-kind c = let a = c.args in
+    handed_on c.from_residual.result c.in_err-kind.field-0.0 c.from_residual.ensures.1
+    ∙ read_no (field 1 (at_most 3)) _ a.s.now a.at _ (sym c.limited.ensures ∙ ap res c.in_err-kind.was)
 
-pub returns-in-No : goal.returns-in-No
+pub returns : goal.returns
 unfolding literal
-returns-in-No c = read_no (field 1 (at_most 3)) _ _ _ _ _
-    (sym c.one_limited.ensures ∙ ap res c.in-No.is)
+returns c = let a = c.args in
+    read_is (field 1 (at_most 3)) _ a.s.now a.at _ _ _
+    (sym c.limited.ensures ∙ ap res c.in_ok-kind.was)
+    (c.verdict.ensures ∙ ap verdict c.bits_at.ensures ∙ sym (made (field 8 (literal_test _)) _ a.s.now _))

@@ -1,8 +1,8 @@
 -- `check_names::mark_at` meets its contract: a text that is cut off is not asked for.
-use Prim.Native.Nat.{◌+◌}
-use mathlib.Core.Path.{ap, ◌∙◌}
+use Prim.Native.Nat.{◌+◌, ◌-◌}
+use mathlib.Core.Path.{◌≡◌, ap, ◌∙◌}
 use native.Mathlib.Omega.{arith}
-use lib.ListN.{take, drop}
+use lib.ListN.{get_or, take, drop}
 use Rattle.record.specs.Decode.{name_end}
 use Rattle.check_names.specs.Marks.{mark}
 use Rattle.check_names.proofs.mark_at.Goals as goal
@@ -17,5 +17,5 @@ returns-then-left-n c = (omega arith, λ f. absurd (omega (arith, f, c.left-2.en
 
 pub returns : goal.returns
 returns c = let a = c.args in
-    let same = c.mark_of.ensures.0 ∙ ap (λ n. mark 0 (take n (drop (a.p + 1 + 1) a.s.now))) c.byte_or-n.ensures.0 in
-    (c.mark_of.ensures.1, λ f. same)
+    let n : a.p + 1 + 1 + c.byte_or-n.result - (a.p + 1 + 1) ≡ get_or a.s.now (a.p + 1) 0 = omega (arith, c.byte_or-n.ensures.0) in
+    (c.mark_of.ensures.1, λ f. c.mark_of.ensures.0 ∙ ap (λ n. mark 0 (take n (drop (a.p + 1 + 1) a.s.now))) n)

@@ -1,12 +1,12 @@
--- What the loop keeps, and its measure.
-use Prim.Native.Nat.{◌+◌, ◌<◌, ◌≤◌}
+-- What the loop keeps: the mark of the bytes left, from the mark so far, is the mark of all.
+use Prim.Native.Nat.{◌<◌}
 use mathlib.Core.Path.{◌≡◌}
-use lib.ListN.{length, take, drop}
+use lib.ListN.{drop}
 use Rattle.check_names.specs.Marks.{mark}
 use Rattle.check_names.proofs.mark_of.Given as goal
 
-abbrev pub invariant-loop-left : goal.invariant-loop-left
-invariant-loop-left l = (l.h < 2048) × (l.p + l.left ≤ length l.s) × (mark l.h (take l.left (drop l.p l.s)) ≡ mark 0 (take l.n (drop l.t l.s)))
-
-abbrev pub decreases-loop-left : goal.decreases-loop-left
-decreases-loop-left l = l.left
+abbrev pub invariant-loop-b : goal.invariant-loop-b
+invariant-loop-b l = record {
+  below : l.h < 2048;
+  same : mark l.h (drop l.b-index l.text) ≡ mark 0 l.text;
+}

@@ -1,8 +1,17 @@
 -- `check_record::version_at` meets its contract: a field, and then its test.
+use mathlib.Core.Path.{sym, ap, ◌∙◌}
 use Rattle.record.specs.Tests.{version_test}
-use Rattle.read_fields.proofs.Laws.{field_tested}
+use Rattle.record.proofs.Following.{handed_on, tested_no, field_judged}
+use Rattle.read_fields.specs.Answer.{res}
 use Rattle.check_record.proofs.version_at.Goals as goal
 
+pub returns-in_err-x : goal.returns-in_err-x
+returns-in_err-x c = let a = c.args in
+    ap res (handed_on c.from_residual.result c.in_err-x.field-0.0 c.from_residual.ensures.1)
+    ∙ tested_no 1 version_test a.s.now a.at _ _ (sym c.field_at.ensures ∙ ap res c.in_err-x.was)
+
 pub returns : goal.returns
-returns c = field_tested _ _ 1 version_test c.one_at-n.ensures c.number.ensures
-    c.version_test.ensures c.tested.ensures
+returns c = let a = c.args in
+    field_judged 1 version_test a.s.now a.at _ _ _ _
+    (sym c.field_at.ensures ∙ ap res c.in_ok-x.was)
+    c.version_test.ensures c.judged.ensures

@@ -1,27 +1,10 @@
--- `check_texts::undigited` meets its contract: what the bytes before answer is what all answer.
-use mathlib.Core.Path.{refl, sym, ◌∙◌}
-use native.Mathlib.Omega.{arith}
-use Rattle.check_texts.proofs.Laws.{digits_stopped, digits_went, digits_done}
+-- `check_texts::undigited` meets its contract: by the last byte that is no digit.
+use borrow.Author.Rules.{rules}
+use Rattle.check_texts.proofs.Laws.{last_at, last_none}
 use Rattle.check_texts.proofs.undigited.Goals as goal
 
-pub loop-e-init : goal.loop-e-init
-loop-e-init c = (omega arith, refl)
+pub returns-in-Some : goal.returns-in-Some
+returns-in-Some c = last_at c.args.text.now c.in-Some.last (search rules) (search rules) (search rules)
 
-pub returns-then-not-digit : goal.returns-then-not-digit
-returns-then-not-digit c = let w = c.loop-e in
-    let a = c.args in
-    digits_stopped a.s.now a.t a.n w.e _ c.loop-e-test.true w.invariant.0 c.byte_or.ensures.0
-    (sym c.digit.ensures ∙ c.if-not-digit.true)
-    ∙ w.invariant.1
-
-pub loop-e-preserved : goal.loop-e-preserved
-loop-e-preserved c = let w = c.loop-e in
-    let a = c.args in (
-      omega arith,
-      digits_went a.s.now a.t a.n w.e _ c.loop-e-test.true w.invariant.0 c.byte_or.ensures.0
-          (sym c.digit.ensures ∙ c.if-not-digit.false)
-          ∙ w.invariant.1,
-    )
-
-pub returns : goal.returns
-returns c = digits_done _ _ (omega arith) ∙ c.loop-e.invariant.1
+pub returns-in-None : goal.returns-in-None
+returns-in-None c = last_none c.args.text.now (search rules)

@@ -1,11 +1,18 @@
 -- `checker::check` meets its contract: a fault of reading is the answer, otherwise the second pass answers.
 use mathlib.Core.Path.{sym, ◌∙◌}
-use Rattle.checker.proofs.Laws.{checked_typed, checked_refused}
+use Rattle.record.proofs.Following.{handed_on}
+use Rattle.checker.proofs.Laws.{checked_refused, typed_refused, typed_accepted}
 use Rattle.checker.proofs.check.Goals as goal
 
-pub returns-in-At : goal.returns-in-At
-returns-in-At c = c.answer.ensures
-    ∙ checked_typed _ _ _ (sym c.read.ensures ∙ c.in-At.is) c.typed.ensures
+pub returns-in_err-read : goal.returns-in_err-read
+returns-in_err-read c =
+    handed_on c.from_residual.result c.in_err-read.field-0.0 c.from_residual.ensures.1
+    ∙ checked_refused _ _ (sym c.read.ensures ∙ c.in_err-read.was)
 
-pub returns-in-Refused : goal.returns-in-Refused
-returns-in-Refused c = checked_refused _ _ _ (sym c.read.ensures ∙ c.in-Refused.is)
+pub returns-in_err-typed : goal.returns-in_err-typed
+returns-in_err-typed c =
+    handed_on c.from_residual-in_err-typed.result c.in_err-typed.field-0.0 c.from_residual-in_err-typed.ensures.1
+    ∙ typed_refused _ _ _ (sym c.read.ensures ∙ c.in_ok-read.was) c.typed.ensures _ c.in_err-typed.was
+
+pub returns : goal.returns
+returns c = typed_accepted _ _ _ (sym c.read.ensures ∙ c.in_ok-read.was) c.typed.ensures _ c.in_ok-typed.was

@@ -4,4 +4,4 @@ use Rattle.checker.proofs.typed.Goals as goal
 
 pub returns : goal.returns
 returns c = let head = c.layout_of-head.ensures in
-    typed_is _ _ _ _ head.0 head.2 c.typed_blocks.ensures
+    typed_is _ _ _ _ head.0 head.2 c.blocks_at.ensures

@@ -15,9 +15,9 @@ overflow_cast-result c = let e : c.args.kind ≡ 3 = omega (arith, kind_most c.r
 
 pub returns-in-0 : goal.returns-in-0
 unfolding literal_of
-returns-in-0 c = let s : to_z w64 (of_z w64 c.of_bits.result) ≡ c.of_bits.result = search rules in
+returns-in-0 c = let s : to_z w64 (of_z w64 c.cast_signed.result) ≡ c.cast_signed.result = search rules in
     let f : of_z w64 (to_z w64 c.args.bits) ≡ c.args.bits = of_z-to_z {w = w64} (search rules) in
-    lit_same (sym c.in-0.is) (ap (of_z w64) (s ∙ c.of_bits.ensures) ∙ f)
+    lit_same (sym c.in-0.is) (ap (of_z w64) (s ∙ c.cast_signed.ensures) ∙ f)
 
 pub returns-in-1 : goal.returns-in-1
 unfolding literal_of

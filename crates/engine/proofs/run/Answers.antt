@@ -1,13 +1,12 @@
 -- `engine::run` meets its contract: check decides, and an accepted record is run.
 use mathlib.Core.Path.{sym, ◌∙◌}
+use Rattle.record.proofs.Following.{handed_on}
+use Rattle.running.specs.declared.RunError.TheVariants.{Refused}
 use Rattle.engine.proofs.Begun.{refuses}
 use Rattle.engine.proofs.run.Goals as goal
 
-pub run_accepted-requires : goal.run_accepted-requires
-run_accepted-requires c = sym c.check.ensures ∙ c.in-Accepted.is
-
-pub returns-in-Refused : goal.returns-in-Refused
-returns-in-Refused c = let r =
-    refuses c.args.input.now c.args.store.now c.args.answers.now c.args.limit c.args.events.now
-    c.args.left.now _ _ (sym c.check.ensures ∙ c.in-Refused.is) in
-    (r.answer, (r.events_are, r.store_is))
+pub returns-in_err-check : goal.returns-in_err-check
+returns-in_err-check c = let a = c.args in
+    let f = c.in_err-check.field-0.0 in
+    let r = refuses a.input.now a.store.now a.answers.now a.limit a.events.now a.left.now f (sym c.check.ensures ∙ c.in_err-check.was) in
+    (handed_on c.from_residual.result (Refused f) c.from_residual.ensures.1 ∙ r.answer, (r.events_are, r.store_is))

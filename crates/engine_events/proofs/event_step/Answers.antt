@@ -1,8 +1,9 @@
 -- `engine_events::event_step` meets its contract: the event is told, and then the machine's step is ret's, or what the answer comes to.
-use Prim.Native.Nat.{ℕ, ◌+◌}
+use Prim.Native.Nat.{ℕ, ◌+◌, ◌*◌, ◌^◌, ◌<◌}
 use mathlib.Core.Path.{sym, ap, ◌∙◌, subst}
 use mathlib.Core.List.{List}
 use native.Mathlib.Omega.{arith}
+use lib.ListN.{length}
 use Rattle.record.specs.Reader.{num_at}
 use Rattle.machine.specs.Machine.{read_all}
 use Rattle.engine_cells.specs.Cells.{store_in}
@@ -13,112 +14,92 @@ use Rattle.engine_events.proofs.Steps.{told_is, told_not, step_unset, room_left,
 use Rattle.engine_events.proofs.event_step.Goals as goal
 
 pub overflow_add-at : goal.overflow_add-at
-overflow_add-at c =
-    let loud = stands_loud c.args.s.now c.args.starts.now c.args.t.spot c.requires.1.0.standing c.requires.1.1.0 c.requires.1.1.1.1.1 in
-    let near = near_by loud c.args.w c.requires.1.1.1.1.0 c.well_formed.0.1 in
-    omega (arith, near)
+overflow_add-at c = let a = c.args in
+    let r = c.requires.going in
+    let loud = stands_loud r.ready.standing r.some c.requires.loud in
+    let m : length a.g.now.s.now * 1 < 2 ^ 63 = omega arith in
+    omega (arith, near_by loud a.g.now.w r.grounded.width m)
 
 pub overflow_add-at-2 : goal.overflow_add-at-2
-overflow_add-at-2 c =
-    let loud = stands_loud c.args.s.now c.args.starts.now c.args.t.spot c.requires.1.0.standing c.requires.1.1.0 c.requires.1.1.1.1.1 in
-    let near = near_by loud c.args.w c.requires.1.1.1.1.0 c.well_formed.0.1 in
-    omega (arith, near)
+overflow_add-at-2 c = let a = c.args in
+    let r = c.requires.going in
+    let loud = stands_loud r.ready.standing r.some c.requires.loud in
+    let m : length a.g.now.s.now * 1 < 2 ^ 63 = omega arith in
+    omega (arith, near_by loud a.g.now.w r.grounded.width m)
 
 pub overflow_add-at-3 : goal.overflow_add-at-3
-overflow_add-at-3 c =
-    let loud = stands_loud c.args.s.now c.args.starts.now c.args.t.spot c.requires.1.0.standing c.requires.1.1.0 c.requires.1.1.1.1.1 in
-    let near = near_by loud c.args.w c.requires.1.1.1.1.0 c.well_formed.0.1 in
-    omega (arith, near)
+overflow_add-at-3 c = let a = c.args in
+    let r = c.requires.going in
+    let loud = stands_loud r.ready.standing r.some c.requires.loud in
+    let m : length a.g.now.s.now * 1 < 2 ^ 63 = omega arith in
+    omega (arith, near_by loud a.g.now.w r.grounded.width m)
 
 pub past_if-row-requires : goal.past_if-row-requires
-past_if-row-requires c =
-    let loud = stands_loud c.args.s.now c.args.starts.now c.args.t.spot c.requires.1.0.standing c.requires.1.1.0 c.requires.1.1.1.1.1 in
-    let near = near_by loud c.args.w c.requires.1.1.1.1.0 c.well_formed.0.1 in
-    omega (arith, near)
+past_if-row-requires c = let a = c.args in
+    let r = c.requires.going in
+    let loud = stands_loud r.ready.standing r.some c.requires.loud in
+    let m : length a.g.now.s.now * 1 < 2 ^ 63 = omega arith in
+    omega (arith, near_by loud a.g.now.w r.grounded.width m)
 
-pub tell_event-requires : goal.tell_event-requires
-tell_event-requires c =
-    let loud = stands_loud c.args.s.now c.args.starts.now c.args.t.spot c.requires.1.0.standing c.requires.1.1.0 c.requires.1.1.1.1.1 in
+pub tell_event-requires-clause-loud : goal.tell_event-requires-clause-loud
+tell_event-requires-clause-loud c = let r = c.requires.going in
+    stands_loud r.ready.standing r.some c.requires.loud
+
+pub tell_event-requires-clause-row : goal.tell_event-requires-clause-row
+tell_event-requires-clause-row c = let a = c.args in
     let code = c.byte_or-code in
-    let a = c.args in
-    let row = row_by a.s.now a.t.spot.at a.w code.result c.past_if-row.result c.requires.1.1.1.1.0
-    code.ensures.0
-    c.past_if-row.ensures.0 in (
-      loud,
-      (
-        c.requires.1.1.1.1.0,
-        (
-          row,
-          (
-            near_row loud a.w c.requires.1.1.1.1.0 c.past_if-row.result row
-                c.well_formed.0.1,
-            omega (arith, c.requires.1.0.events),
-          ),
-        ),
-      ),
-    )
+    let r = c.requires.going in
+    row_by a.g.now.s.now a.t.spot.at a.g.now.w code.result c.past_if-row.result r.grounded.width code.ensures.0 c.past_if-row.ensures.0
+
+pub tell_event-requires-clause-near : goal.tell_event-requires-clause-near
+tell_event-requires-clause-near c = let a = c.args in
+    let code = c.byte_or-code in
+    let r = c.requires.going in
+    let loud = stands_loud r.ready.standing r.some c.requires.loud in
+    let m : length a.g.now.s.now * 1 < 2 ^ 63 = omega arith in
+    near_row loud a.g.now.w r.grounded.width c.past_if-row.result
+    (row_by a.g.now.s.now a.t.spot.at a.g.now.w code.result c.past_if-row.result r.grounded.width code.ensures.0 c.past_if-row.ensures.0) m
 
 pub returns-then-code-eq66 : goal.returns-then-code-eq66
-returns-then-code-eq66 c =
-    let loud = stands_loud c.args.s.now c.args.starts.now c.args.t.spot c.requires.1.0.standing c.requires.1.1.0 c.requires.1.1.1.1.1 in
+returns-then-code-eq66 c = let a = c.args in
     let code = c.byte_or-code in
-    let a = c.args in
-    let told = told_is a.s.now a.t.spot.at a.out.now _ a.t.event c.in-Is.event c.tell_event.result (read_all (store_in a.cells.now) (args_at a.s.now a.t.spot.at))
-    c.in-Is.is c.tell_event.ensures in
-    subst (Stepped a.s.now a.types.now a.starts.now a.list.now a.cells.now a.cells.now a.out.now _ a.t)
-    (sym c.ended.ensures)
-    (step_ret a.s.now a.types.now a.starts.now a.list.now a.cells.now a.out.now a.t c.requires.1.0
-    c.requires.1.1.0 loud _ c.in-Is.event told
-    (sym (code.ensures.0 ∙ ap (λ (w : ℕ). num_at a.s.now (a.t.spot.at + w) 1) c.requires.1.1.1.1.0) ∙ c.if-code-eq66.true))
+    let r = c.requires.going in
+    let loud = stands_loud r.ready.standing r.some c.requires.loud in
+    let told = told_is a.g.now.s.now a.t.spot.at a.out.now _ a.t.event c.in-Some.event c.tell_event.result
+    (read_all (store_in a.cells.now) (args_at a.g.now.s.now a.t.spot.at)) c.in-Some.is c.tell_event.ensures in
+    subst (Stepped a.g.now a.cells.now a.cells.now a.out.now _ a.t) (sym c.ended.ensures)
+    (step_ret a.g.now a.cells.now a.out.now a.t r loud _ c.in-Some.event told
+    (sym (code.ensures.0 ∙ ap (λ (w : ℕ). num_at a.g.now.s.now (a.t.spot.at + w) 1) r.grounded.width) ∙ c.if-code-eq66.true))
 
-pub answered-requires : goal.answered-requires
-answered-requires c =
-    let loud = stands_loud c.args.s.now c.args.starts.now c.args.t.spot c.requires.1.0.standing c.requires.1.1.0 c.requires.1.1.1.1.1 in
-    let a = c.args in
-    let told = told_is a.s.now a.t.spot.at a.out.now _ a.t.event c.in-Is.event c.tell_event.result (read_all (store_in a.cells.now) (args_at a.s.now a.t.spot.at))
-    c.in-Is.is c.tell_event.ensures in (
-      c.requires.0,
-      (
-        c.requires.1.0,
-        (
-          c.requires.1.1.0,
-          (
-            c.requires.1.1.1.0,
-            (
-              c.requires.1.1.1.1.0,
-              (
-                loud,
-                room_left a.s.now a.types.now a.starts.now a.list.now a.cells.now a.out.now
-                    a.t c.requires.1.0 c.requires.1.1.0 loud _ c.in-Is.event told,
-              ),
-            ),
-          ),
-        ),
-      ),
-    )
+pub answered-requires-clause-loud : goal.answered-requires-clause-loud
+answered-requires-clause-loud c = let r = c.requires.going in
+    stands_loud r.ready.standing r.some c.requires.loud
+
+pub answered-requires-clause-room : goal.answered-requires-clause-room
+answered-requires-clause-room c = let a = c.args in
+    let r = c.requires.going in
+    let loud = stands_loud r.ready.standing r.some c.requires.loud in
+    let told = told_is a.g.now.s.now a.t.spot.at a.out.now _ a.t.event c.in-Some.event c.tell_event.result
+    (read_all (store_in a.cells.now) (args_at a.g.now.s.now a.t.spot.at)) c.in-Some.is c.tell_event.ensures in
+    room_left a.g.now a.cells.now a.out.now a.t r loud _ c.in-Some.event told
 
 pub returns-else-code-eq66 : goal.returns-else-code-eq66
-returns-else-code-eq66 c =
-    let loud = stands_loud c.args.s.now c.args.starts.now c.args.t.spot c.requires.1.0.standing c.requires.1.1.0 c.requires.1.1.1.1.1 in
+returns-else-code-eq66 c = let a = c.args in
     let code = c.byte_or-code in
-    let a = c.args in
-    let told = told_is a.s.now a.t.spot.at a.out.now _ a.t.event c.in-Is.event c.tell_event.result (read_all (store_in a.cells.now) (args_at a.s.now a.t.spot.at))
-    c.in-Is.is c.tell_event.ensures in
-    step_told a.s.now a.types.now a.starts.now a.list.now a.cells.now a.out.now a.t c.requires.1.0
-    c.requires.1.1.0 loud _ c.in-Is.event told _ c.answered.result
-    (λ e. c.if-code-eq66.false ((code.ensures.0 ∙ ap (λ (w : ℕ). num_at a.s.now (a.t.spot.at + w) 1)
-    c.requires.1.1.1.1.0) ∙ e)) c.answered.ensures
+    let r = c.requires.going in
+    let loud = stands_loud r.ready.standing r.some c.requires.loud in
+    let told = told_is a.g.now.s.now a.t.spot.at a.out.now _ a.t.event c.in-Some.event c.tell_event.result
+    (read_all (store_in a.cells.now) (args_at a.g.now.s.now a.t.spot.at)) c.in-Some.is c.tell_event.ensures in
+    step_told a.g.now a.cells.now a.out.now a.t r loud _ c.in-Some.event told _ c.answered.result
+    (λ e. c.if-code-eq66.false (code.ensures.0 ∙ ap (λ (w : ℕ). num_at a.g.now.s.now (a.t.spot.at + w) 1) r.grounded.width ∙ e))
+    c.answered.ensures
 
-pub returns-in-Unset : goal.returns-in-Unset
-returns-in-Unset c =
-    let loud = stands_loud c.args.s.now c.args.starts.now c.args.t.spot c.requires.1.0.standing c.requires.1.1.0 c.requires.1.1.1.1.1 in
-    let a = c.args in
-    let none_read = told_not a.s.now a.t.spot.at a.out.now _ a.t.event c.tell_event.result (read_all (store_in a.cells.now) (args_at a.s.now a.t.spot.at))
-    c.in-Unset.is c.tell_event.ensures in
-    subst (λ (m : List ℕ). Stepped a.s.now a.types.now a.starts.now a.list.now a.cells.now a.cells.now
-    a.out.now m a.t c.ended-in-Unset.result)
-    (sym none_read.1)
-    (subst (Stepped a.s.now a.types.now a.starts.now a.list.now a.cells.now a.cells.now a.out.now a.out.now a.t)
-    (sym c.ended-in-Unset.ensures)
-    (step_unset a.s.now a.types.now a.starts.now a.list.now a.cells.now a.out.now a.t c.requires.1.0
-    c.requires.1.1.0 loud none_read.0))
+pub returns-in-None : goal.returns-in-None
+returns-in-None c = let a = c.args in
+    let r = c.requires.going in
+    let loud = stands_loud r.ready.standing r.some c.requires.loud in
+    let none_read = told_not a.g.now.s.now a.t.spot.at a.out.now _ a.t.event c.tell_event.result
+    (read_all (store_in a.cells.now) (args_at a.g.now.s.now a.t.spot.at)) c.in-None.is c.tell_event.ensures in
+    subst (λ (m : List ℕ). Stepped a.g.now a.cells.now a.cells.now a.out.now m a.t c.ended-in-None.result) (sym none_read.1)
+    (subst (Stepped a.g.now a.cells.now a.cells.now a.out.now a.out.now a.t) (sym c.ended-in-None.ensures)
+    (step_unset a.g.now a.cells.now a.out.now a.t r loud none_read.0))

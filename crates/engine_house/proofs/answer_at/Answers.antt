@@ -8,7 +8,7 @@ returns-then-at-s c = answer_past _ _ c.if-at-s.true
 
 pub returns-then-alone : goal.returns-then-alone
 returns-then-alone c = let a = c.args in
-    answer_marked a.s.now a.at c.if-at-s.false 0 0 (sym c.alone.ensures ∙ c.if-alone.true)
+    rw c.byte_item.ensures (answer_marked a.s.now a.at c.if-at-s.false 0 0 (sym c.alone.ensures ∙ c.if-alone.true))
 
 pub returns-then-not-value_type : goal.returns-then-not-value_type
 returns-then-not-value_type c = let a = c.args in

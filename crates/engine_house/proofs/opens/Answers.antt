@@ -8,6 +8,6 @@ returns-then-s-lt5 c = (opens_short _ c.if-s-lt5.true, λ e. absurd (false≢tru
 
 pub returns : goal.returns
 returns c = let s = c.args.s.now in
-    let l = c.be32.ensures in
+    let l = c.be.ensures in
     let h = c.if-s-lt5.false in
     (opens_tested s _ _ h l.0 c.byte_or.ensures.0, opens_few s _ _ h l.0 c.byte_or.ensures.0 l.1)

@@ -10,31 +10,31 @@ returns-then-not-opens c = list_closed _ (sym c.opens.ensures.0 ∙ c.if-not-ope
 pub loop-p-init : goal.loop-p-init
 loop-p-init c = let o = c.if-not-opens.false in
     let e = c.opens.ensures in
-    (omega arith, omega arith, list_start _ (sym e.0 ∙ o) (e.1 o))
+    record { before = omega arith; few = omega arith; rest = list_start _ (sym e.0 ∙ o) (e.1 o) }
 
-pub returns-in-No : goal.returns-in-No
-returns-in-No c = let l = c.loop-p in
-    let s = c.args.s.now in
-    list_stopped s l.p l.n l.invariant.2 c.loop-p-test.true l.invariant.0 _ c.answer_at.ensures c.in-No.is
+pub returns-in_err-p : goal.returns-in_err-p
+returns-in_err-p c = let l = c.loop-p in
+    rw c.from_residual.ensures
+    (list_stopped c.args.s.now l.p l.n l.invariant.rest c.loop-p-test.true l.invariant.before _ c.answer_at.ensures c.in_err-p.was)
 
 pub loop-p-smaller : goal.loop-p-smaller
 loop-p-smaller c = let l = c.loop-p in
-    let s = c.args.s.now in
     let h = c.loop-p-test.true in
-    let m = list_moved s l.p l.n l.invariant.2 h l.invariant.0 _ c.answer_at.ensures _ _ c.in-Is.is in
+    let m = list_moved c.args.s.now l.p l.n l.invariant.rest h l.invariant.before _ c.answer_at.ensures _ _ c.in_ok-p.was in
     omega (arith, m, h)
 
 pub loop-p-preserved : goal.loop-p-preserved
 loop-p-preserved c = let l = c.loop-p in
     let s = c.args.s.now in
     let h = c.loop-p-test.true in
-    let m = list_moved s l.p l.n l.invariant.2 h l.invariant.0 _ c.answer_at.ensures _ _ c.in-Is.is in (
-      omega (arith, m, l.invariant.0),
-      omega (arith, h, l.invariant.0),
-      list_went s l.p l.n l.invariant.2 h l.invariant.0 _ c.answer_at.ensures _ _ c.in-Is.is,
-    )
+    let i = l.invariant in
+    let m = list_moved s l.p l.n i.rest h i.before _ c.answer_at.ensures _ _ c.in_ok-p.was in
+    record {
+      before = omega (arith, m, i.before);
+      few = omega (arith, h, i.before);
+      rest = list_went s l.p l.n i.rest h i.before _ c.answer_at.ensures _ _ c.in_ok-p.was;
+    }
 
 pub returns : goal.returns
 returns c = let l = c.loop-p in
-    let s = c.args.s.now in
-    list_done s l.p l.n l.invariant.2 c.loop-p-test.false l.invariant.1
+    list_done c.args.s.now l.p l.n l.invariant.rest c.loop-p-test.false l.invariant.few

@@ -5,7 +5,7 @@ use Rattle.engine_house.proofs.Answers.{ListLoop}
 use Rattle.engine_house.proofs.read_answers.Given as goal
 
 abbrev pub invariant-loop-p : goal.invariant-loop-p
-invariant-loop-p l = (l.n + 5 ≤ l.p) × (l.n ≤ length l.s) × ListLoop l.s l.p l.n
+invariant-loop-p l = record { before : l.n + 5 ≤ l.p; few : l.n ≤ length l.s; rest : ListLoop l.s l.p l.n }
 
 abbrev pub decreases-loop-p : goal.decreases-loop-p
 decreases-loop-p l = length l.s - l.p

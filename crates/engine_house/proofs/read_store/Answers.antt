@@ -1,39 +1,29 @@
--- `engine_house::read_store` meets its contract: the rest from here gives the whole store.
+-- `engine_house::read_store` meets its contract.
 use mathlib.Core.Path.{sym, ◌∙◌}
-use native.Mathlib.Omega.{arith}
-use borrow.Author.Rules.{rules}
-use Rattle.engine_house.proofs.Store.{store_closed, store_start, store_went, store_stopped, store_done}
+use Rattle.engine_house.proofs.Store.{store_closed, store_start, store_went, store_stopped, store_full, store_over}
 use Rattle.engine_house.proofs.read_store.Goals as goal
 
 pub returns-then-not-opens : goal.returns-then-not-opens
-returns-then-not-opens c = let a = c.args in
-    store_closed a.s.now a.types.now _ (sym c.opens.ensures.0 ∙ c.if-not-opens.true)
+returns-then-not-opens c = store_closed c.args.s.now c.args.types.now (sym c.opens.ensures.0 ∙ c.if-not-opens.true)
 
 pub loop-i-init : goal.loop-i-init
-loop-i-init c = let a = c.args in (
-  omega arith,
-  c.requires.0.many,
-  c.requires.1,
-  store_start a.s.now a.types.now a.cells.now (sym c.opens.ensures.0 ∙ c.if-not-opens.false) c.requires.0,
-)
+loop-i-init c = let a = c.args in
+    store_start a.s.now a.types.now c.new-cells.result (sym c.opens.ensures.0 ∙ c.if-not-opens.false) c.new-cells.ensures
 
-pub returns-in-No : goal.returns-in-No
-returns-in-No c = let l = c.loop-i in
-    let a = c.args in
-    store_stopped a.s.now a.types.now l.cells l.p l.i l.invariant.3 c.loop-i-test.true _
-    c.stored_at.ensures _ c.in-No.is
+pub returns-in_err-item : goal.returns-in_err-item
+returns-in_err-item c = let l = c.loop-i in
+    rw c.from_residual.ensures
+    (store_stopped c.args.s.now c.args.types.now l.cells l.p l.i l.invariant c.loop-i-test.true _ c.stored_at.ensures c.in_err-item.was)
 
 pub loop-i-preserved : goal.loop-i-preserved
 loop-i-preserved c = let l = c.loop-i in
-    let a = c.args in (
-      omega arith,
-      search rules,
-      l.invariant.2,
-      store_went a.s.now a.types.now l.cells l.p l.i l.invariant.3 c.loop-i-test.true _
-          c.stored_at.ensures _ _ c.in-Is.is _ c.set_cell.ensures,
-    )
+    store_went c.args.s.now c.args.types.now l.cells l.p l.i l.invariant c.loop-i-test.true _
+    c.stored_at.ensures _ _ c.in_ok-item.was _ c.set_cell.ensures
 
-pub returns : goal.returns
-returns c = let l = c.loop-i in
-    let a = c.args in
-    store_done a.s.now a.types.now l.cells l.p l.i l.invariant.3 c.loop-i-test.false
+pub returns-then-p-s : goal.returns-then-p-s
+returns-then-p-s c = let l = c.loop-i in
+    store_full c.args.s.now c.args.types.now l.cells l.p l.i l.invariant c.loop-i-test.false c.if-p-s.true
+
+pub returns-else-p-s : goal.returns-else-p-s
+returns-else-p-s c = let l = c.loop-i in
+    store_over c.args.s.now c.args.types.now l.cells l.p l.i l.invariant c.loop-i-test.false c.if-p-s.false

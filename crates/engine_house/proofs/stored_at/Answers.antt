@@ -7,28 +7,27 @@ pub returns-then-at-s : goal.returns-then-at-s
 returns-then-at-s c = no_stored _ _ (stored_past _ _ c.if-at-s.true)
 
 pub returns-then-kind : goal.returns-then-kind
-returns-then-kind c = is_nothing _ _ _ _ c.if-kind.true (stored_nothing _ _ c.if-at-s.false c.if-kind.true)
+returns-then-kind c = rw c.byte_item.ensures
+    (is_nothing _ _ _ _ c.if-kind.true (stored_nothing _ _ c.if-at-s.false c.if-kind.true))
 
 pub returns-then-not-value_type : goal.returns-then-not-value_type
 returns-then-not-value_type c = no_stored _ _
     (stored_untyped _ _ c.if-at-s.false c.if-kind.false (sym c.value_type.ensures ∙ c.if-not-value_type.true))
 
-pub value_behind-requires : goal.value_behind-requires
-value_behind-requires c = rw (sym c.value_type.ensures ∙ c.if-not-value_type.false) tt
+pub returns-in_err-item : goal.returns-in_err-item
+returns-in_err-item c = rw c.from_residual.ensures
+    (stored_missing _ _ c.if-at-s.false c.if-kind.false
+    (sym c.value_type.ensures ∙ c.if-not-value_type.false) _ _
+    c.value_behind.ensures.0 c.in_err-item.was)
 
 pub returns-then-has_type : goal.returns-then-has_type
 returns-then-has_type c = stored_fit _ _ c.if-at-s.false c.if-kind.false
     (sym c.value_type.ensures ∙ c.if-not-value_type.false) _ _
-    c.value_behind.ensures.0 _ _ c.in-Is.is c.value_behind.ensures.1
+    c.value_behind.ensures.0 _ _ c.in_ok-item.was c.value_behind.ensures.1
     (sym c.has_type.ensures ∙ c.if-has_type.true)
 
 pub returns-else-has_type : goal.returns-else-has_type
 returns-else-has_type c = stored_unfit _ _ c.if-at-s.false c.if-kind.false
     (sym c.value_type.ensures ∙ c.if-not-value_type.false) _ _
-    c.value_behind.ensures.0 _ _ c.in-Is.is
+    c.value_behind.ensures.0 _ _ c.in_ok-item.was
     (sym c.has_type.ensures ∙ c.if-has_type.false)
-
-pub returns-in-No : goal.returns-in-No
-returns-in-No c = stored_missing _ _ c.if-at-s.false c.if-kind.false
-    (sym c.value_type.ensures ∙ c.if-not-value_type.false) _ _
-    c.value_behind.ensures.0 c.in-No.is

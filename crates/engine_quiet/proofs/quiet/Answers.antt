@@ -26,15 +26,15 @@ module _ (code : ℕ) where
   unfolding quiet
   loud h a b d = rw (lt-leb code 14 h, ne_eqb code 64 a, ne_eqb code 65 b, ne_eqb code 69 d)
 
-pub returns-in-69 : goal.returns-in-69
-unfolding quiet
-returns-in-69 c = sym (ap quiet c.in-69.is)
-
 pub returns-in-0-to-14 : goal.returns-in-0-to-14
-returns-in-0-to-14 c = low _ (omega arith)
+unfolding quiet
+returns-in-0-to-14 c = let e : c.args.code ≡ 69 = omega arith in sym (ap quiet e)
 
-pub returns-in-64-to-65 : goal.returns-in-64-to-65
-returns-in-64-to-65 c = jumps _ (omega arith) (omega arith)
+pub returns-in-0-to-14-2 : goal.returns-in-0-to-14-2
+returns-in-0-to-14-2 c = low _ (omega arith)
+
+pub returns-in-0-to-14-3 : goal.returns-in-0-to-14-3
+returns-in-0-to-14-3 c = jumps _ (omega arith) (omega arith)
 
 pub returns-in_default : goal.returns-in_default
 returns-in_default c = loud _ (omega arith) (λ e. absurd (omega (arith, e))) (λ e. absurd (omega (arith, e))) (λ e. absurd (omega (arith, e)))

@@ -1,83 +1,47 @@
--- `lvn_blocks::blocks_lvn` meets its contract: what is left from here gives the whole, and the total is K.
-use mathlib.Core.Path.{◌≡◌, refl, ◌∙◌}
+-- `lvn_blocks::blocks_lvn` meets its contract: what is left from here gives the whole.
+use Prim.Native.Nat.{◌-◌}
+use mathlib.Core.Path.{◌≡◌, refl, sym, subst}
 use native.Mathlib.Omega.{arith}
-use lib.ListN.{length}
+use Rattle.lvn_blocks.specs.Blocks.{BlocksAsk}
 use Rattle.lvn_blocks.proofs.Blocks.{laid_out, going_all, going_none, going_less, alike_less, ask_one, ask_less}
 use Rattle.lvn_blocks.proofs.Heads.{block_figure, figure_fits}
 use Rattle.lvn_blocks.proofs.blocks_lvn.Invariants.{function_of}
 use Rattle.lvn_blocks.proofs.blocks_lvn.Goals as goal
 
-pub loop-left-init : goal.loop-left-init
-loop-left-init c = (c.requires.1, (omega arith, (refl, ((λ bs. going_all), (refl, (refl, (refl, (refl, refl))))))))
+pub loop-i-init : goal.loop-i-init
+loop-i-init c = let src = c.args.src.now in
+    let z : src.layout.blocks - 0 ≡ src.layout.blocks = omega arith in
+    (subst (BlocksAsk src.layout src.reads.now c.args.from (record { k = 0; total = 0 })) (sym z) c.requires.1, (refl, λ bs. going_all z))
 
-pub block_after-b-requires : goal.block_after-b-requires
-block_after-b-requires c = let v = c.loop-left in
-    ask_one v.left c.loop-left-test.true v.invariant.0
+pub block_lvn-next-requires : goal.block_lvn-next-requires
+block_lvn-next-requires c = let l = c.loop-i in
+    ask_one (c.args.src.now.layout.blocks - l.i) (omega arith) l.invariant.0
 
-pub overflow_sub-layout : goal.overflow_sub-layout
-overflow_sub-layout c = omega (arith, c.loop-left.invariant.1.0)
-
-pub overflow_sub-b : goal.overflow_sub-b
-overflow_sub-b c = let v = c.loop-left in
-    (figure_fits (ask_one v.left c.loop-left-test.true v.invariant.0) c.block_after-b.ensures).0
+pub overflow_sub-count : goal.overflow_sub-count
+overflow_sub-count c = let l = c.loop-i in
+    (figure_fits (ask_one (c.args.src.now.layout.blocks - l.i) (omega arith) l.invariant.0) c.block_lvn-next.ensures).0
 
 pub note_figure-requires : goal.note_figure-requires
-note_figure-requires c = let v = c.loop-left in
-    let ask = ask_one v.left c.loop-left-test.true v.invariant.0 in
-    (omega (arith, ask.reads), (figure_fits ask c.block_after-b.ensures).1)
+note_figure-requires c = let l = c.loop-i in
+    let ask = ask_one (c.args.src.now.layout.blocks - l.i) (omega arith) l.invariant.0 in
+    (omega (arith, ask.reads), (figure_fits ask c.block_lvn-next.ensures).1)
 
-pub loop-left-preserved : goal.loop-left-preserved
-loop-left-preserved c = let v = c.loop-left in
-    let a = c.args in
-    let h = c.loop-left-test.true in
-    let d = c.block_after-b in
-    let b = d.result in
-    let F = a.layout in
-    let figure = block_figure (ask_one v.left h v.invariant.0) d.ensures in
-    let e : length d.new.heads ≡ length v.heads = d.auto.heads in
-    let f : length d.new.nums ≡ length v.nums = d.auto.nums in
-    let k = v.invariant.1.1.1.1 in (
-      ask_less v.left h v.invariant.0 e f d.ensures,
+pub loop-i-preserved : goal.loop-i-preserved
+loop-i-preserved c = let l = c.loop-i in
+    let src = c.args.src.now in
+    let F = src.layout in
+    let n = F.blocks - l.i in
+    let d = c.block_lvn-next in
+    let figure = block_figure (ask_one n (omega arith) l.invariant.0) d.ensures in (
+      ask_less n (omega arith) l.invariant.0 _ (omega arith) d.ensures,
       (
-        omega (arith, v.invariant.1.0),
-        (
-          alike_less d.ensures v.invariant.1.1.0,
-          (
-            (λ bs.
-                let l = laid_out F (function_of F a.types.now bs) c.requires.0 refl d.ensures figure in
-                going_less v.at v.c b.at b.count v.left F.end F.blocks _ h v.invariant.1.0 l.0 l.1
-                c.note_figure.ensures (v.invariant.1.1.1.0 bs)),
-            (
-              e ∙ k.0,
-              (
-                f ∙ k.1.0,
-                (
-                  d.auto.names ∙ k.1.1.0,
-                  (c.note_figure.auto.each ∙ k.1.1.1.0, d.auto.out ∙ k.1.1.1.1),
-                ),
-              ),
-            ),
-          ),
-        ),
+        alike_less d.ensures l.invariant.1.0,
+        λ bs.
+            let laid = laid_out F (function_of F src.types.now bs) c.requires.0 refl d.ensures figure in
+            going_less l.at l.count d.result d.new.count n _ F.end F.blocks _ l.i (omega arith) (omega arith) (omega arith) (omega arith)
+            laid.0 laid.1 c.note_figure.ensures (l.invariant.1.1 bs),
       ),
     )
 
-pub shape_of-heads : goal.shape_of-heads
-shape_of-heads c = c.loop-left.invariant.1.1.1.1.0
-
-pub shape_of-nums : goal.shape_of-nums
-shape_of-nums c = c.loop-left.invariant.1.1.1.1.1.0
-
-pub shape_of-names : goal.shape_of-names
-shape_of-names c = c.loop-left.invariant.1.1.1.1.1.1.0
-
-pub shape_of-each : goal.shape_of-each
-shape_of-each c = c.loop-left.invariant.1.1.1.1.1.1.1.0
-
-pub shape_of-out : goal.shape_of-out
-shape_of-out c = c.loop-left.invariant.1.1.1.1.1.1.1.1
-
 pub returns : goal.returns
-returns c = let v = c.loop-left in
-    let z : v.left ≡ 0 = omega arith in
-    λ bs. going_none v.c v.left z v.invariant.1.1.0 (v.invariant.1.1.1.0 bs)
+returns c = let l = c.loop-i in λ bs. going_none l.count (c.args.src.now.layout.blocks - l.i) (omega arith) l.invariant.1.0 (l.invariant.1.1 bs)

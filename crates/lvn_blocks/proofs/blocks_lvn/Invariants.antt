@@ -1,8 +1,7 @@
--- What the loop keeps, and its measure.
-use Prim.Native.Nat.{ℕ, ◌≤◌}
+-- What the loop keeps: what is left from here gives the whole.
+use Prim.Native.Nat.{ℕ, ◌-◌}
 use mathlib.Core.List.{List}
 use mathlib.Core.Path.{◌≡◌}
-use lib.ListN.{length}
 use Rattle.record.specs.Record.{Instr, Block, Function}
 use Rattle.read_layout.specs.declared.Layout.{Layout}
 use Rattle.lvn_blocks.specs.Blocks.{BlocksAsk}
@@ -12,15 +11,12 @@ use Rattle.lvn_blocks.proofs.blocks_lvn.Given as goal
 abbrev pub function_of : Layout → List ℕ → List (Block Instr) → Function
 function_of F ts bs = record { args = F.args; types = ts; blocks = bs }
 
-abbrev pub invariant-loop-left : goal.invariant-loop-left
-invariant-loop-left l = BlocksAsk l.layout l.s l.at l.c l.left l.heads l.nums ×
-    ((l.left ≤ l.layout.blocks) ×
-    ((l.c.k ≡ l.c.total) ×
-    (((bs : List (Block Instr)) →
-    Going l.layout.width (function_of l.layout l.types bs) l.s l.initial.at l.layout.blocks l.initial.names l.initial.each l.initial.out l.at l.c.k l.left l.names l.each l.out) ×
-    ((length l.heads ≡ length l.initial.heads) ×
-    ((length l.nums ≡ length l.initial.nums) ×
-    ((length l.names ≡ length l.initial.names) × ((length l.each ≡ length l.initial.each) × (length l.out ≡ length l.initial.out))))))))
-
-abbrev pub decreases-loop-left : goal.decreases-loop-left
-decreases-loop-left l = l.left
+abbrev pub invariant-loop-i : goal.invariant-loop-i
+invariant-loop-i l =
+    let F = l.src.layout in
+    let n = F.blocks - l.i in
+    BlocksAsk F l.src.reads.now l.at l.count n ×
+    ((l.count.k ≡ l.count.total) ×
+    ((bs : List (Block Instr)) →
+    Going F.width (function_of F l.src.types.now bs) l.src.reads.now l.fn.from F.blocks l.initial.names l.initial.each l.initial.out
+    l.at l.count.k n l.names l.each l.out))

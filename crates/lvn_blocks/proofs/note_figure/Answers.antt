@@ -9,7 +9,7 @@ use Rattle.lvn_blocks.proofs.note_figure.Goals as goal
 pub returns-then-i-each : goal.returns-then-i-each
 unfolding put
 returns-then-i-each c = let a = c.args in
-    ap (λ (n : ℕ). set a.each.now a.i (n + a.saves)) c.be16.ensures.0
+    ap (λ (n : ℕ). set a.each.now a.i (n + a.saves)) c.be.ensures.0
 
 pub returns-else-i-each : goal.returns-else-i-each
 returns-else-i-each c = sym (put_out _ _ _ c.if-i-each.false)

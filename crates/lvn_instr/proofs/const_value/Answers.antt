@@ -1,5 +1,6 @@
 -- `lvn_instr::const_value` meets its contract: by the literal, an int by the type too.
 use Prim.Native.Nat.{ℕ}
+use mathlib.Core.Logic.{inl, inr}
 use mathlib.Core.Option.{some}
 use mathlib.Core.Path.{◌≡◌, ap, ◌∙◌}
 use mir.Syntax.{w64}
@@ -18,7 +19,7 @@ unfolding literal_of
 returns-then-t-eq-FLOAT c = λ s.
     let z = c.in-Int.z in
     let again : of_z w64 (to_z w64 (of_z w64 z)) ≡ of_z w64 z = search rules in
-    let word : c.bits_of-w.result ≡ of_z w64 z = c.bits_of-w.ensures ∙ again in
+    let word : c.cast_unsigned-w.result ≡ of_z w64 z = c.cast_unsigned-w.ensures ∙ again in
     rw c.in-Int.is
     (ap (λ (n : ℕ). some (constant (literal n))) word ∙ const_float s c.args.t _ c.if-t-eq-FLOAT.true)
 
@@ -27,7 +28,7 @@ unfolding literal_of
 returns-else-t-eq-FLOAT c = λ s.
     let z = c.in-Int.z in
     let again : of_z w64 (to_z w64 (of_z w64 z)) ≡ of_z w64 z = search rules in
-    let word : c.bits_of-w.result ≡ of_z w64 z = c.bits_of-w.ensures ∙ again in
+    let word : c.cast_unsigned-w.result ≡ of_z w64 z = c.cast_unsigned-w.ensures ∙ again in
     rw c.in-Int.is
     (ap (λ (n : ℕ). some (constant (int n))) word ∙ const_int s c.args.t _ c.if-t-eq-FLOAT.false)
 
@@ -37,12 +38,4 @@ returns-in-Bool c = λ s. rw c.in-Bool.is (const_bool s c.args.t c.in-Bool.b)
 
 pub returns-in-Float : goal.returns-in-Float
 unfolding make_val value_of numbered literal_of
-returns-in-Float c = λ s. rw c.in-Float.is
-
-pub returns-in-Nan : goal.returns-in-Nan
-unfolding make_val value_of numbered literal_of
-returns-in-Nan c = λ s. rw c.in-Nan.is
-
-pub returns-in-Char : goal.returns-in-Char
-unfolding make_val value_of numbered literal_of
-returns-in-Char c = λ s. rw c.in-Char.is
+returns-in-Float c = λ s. elim c.in-Float.is [ inl p ↦ rw p.1 | inr q ↦ elim q [ inl p ↦ rw p.1 | inr p ↦ rw p.1 ] ]

@@ -1,5 +1,6 @@
 -- `lvn_instr::literal_for` meets its contract: by the constant.
 use Prim.Native.Nat.{ℕ}
+use mathlib.Core.Logic.{inl, inr}
 use mathlib.Core.Path.{◌≡◌, ap, ◌∙◌}
 use lib.IntN.{ℤ}
 use mir.Facts.{of_z-to_z}
@@ -18,11 +19,8 @@ int_literal w z f s e = ap (λ (n : ℕ). record { kind = 0; bits = n }) (ap (of
 
 pub returns-in-Int : goal.returns-in-Int
 unfolding literal_of
-returns-in-Int c = rw c.in-Int.is (int_literal c.in-Int.w c.of_bits.result (search rules) (search rules) c.of_bits.ensures)
-
-pub returns-in-IntAsFloat : goal.returns-in-IntAsFloat
-unfolding literal_of
-returns-in-IntAsFloat c = rw c.in-IntAsFloat.is (int_literal c.in-IntAsFloat.w c.of_bits-in-IntAsFloat.result (search rules) (search rules) c.of_bits-in-IntAsFloat.ensures)
+returns-in-Int c = let l = int_literal c.in-Int.w c.cast_signed.result (search rules) (search rules) c.cast_signed.ensures in
+    elim c.in-Int.is [ inl p ↦ rw p l | inr p ↦ rw p l ]
 
 pub returns-in-Bool : goal.returns-in-Bool
 unfolding literal_of

@@ -7,7 +7,7 @@ use Rattle.lvn_instr.proofs.make_const_instr.Goals as goal
 
 pub returns : goal.returns
 unfolding instr_of code_of shape_of
-returns c = let i = c.args.i in (
-  (λ z. record { id = i.id; code = 0; dest = i.dest; lit = c.literal_for-l.ensures z; args = []; callee = 0; blocks = [] }),
+returns c = let i = c.args.i.now in (
+  (λ z. record { id = i.id; code = 0; dest = i.dest; lit = c.literal_for.ensures z; args = []; callee = 0; blocks = [] }),
   omega arith,
 )

@@ -1,26 +1,14 @@
--- `lvn_instr::make_one_instr` meets its contract: field by field.
+-- `lvn_instr::make_one_instr` meets its contract.
 use mathlib.Core.List.{[], ◌∷◌}
-use native.Mathlib.Omega.{arith}
-use lib.ListN.{take, replicate}
+use mathlib.Core.Path.{ap, ◌∙◌}
 use Rattle.arith.specs.Code.{code1}
-use Rattle.record.proofs.Form.{one_shape}
-use Rattle.record.specs.Answer.{literal_of}
-use Rattle.record.specs.Record.{no_lit}
-use Rattle.record.specs.Shape.{targets}
-use Rattle.record.specs.View.{code_of, instr_of}
+use Rattle.record.specs.View.{instr_of}
+use Rattle.record.specs.declared.NameIx.{NameIx}
+use Rattle.numbering.specs.Number.{make_val_instr}
 use Rattle.lvn_instr.proofs.make_one_instr.Goals as goal
 
 pub returns : goal.returns
-unfolding instr_of code_of literal_of
-returns c = let a = c.args in (
-  (λ z. record {
-    id = a.i.id;
-    code = code1 a.o;
-    dest = a.i.dest;
-    lit = no_lit;
-    args = c.home_in-x.ensures z ∷ [];
-    callee = 0;
-    blocks = take (targets (one_shape a.o z) 1) (replicate 8 0);
-  }),
-  omega arith,
-)
+unfolding instr_of
+returns c = let a = c.args in
+    let e = c.one_instr.ensures in
+    (e.0 ∙ ap (λ (x : NameIx). make_val_instr (instr_of a.i.now) (code1 a.o) (x ∷ [])) c.home.ensures, e.1.1)

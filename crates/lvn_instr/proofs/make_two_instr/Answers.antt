@@ -14,11 +14,11 @@ pub returns : goal.returns
 unfolding instr_of code_of literal_of
 returns c = let a = c.args in (
   (λ z. record {
-    id = a.i.id;
+    id = a.i.now.id;
     code = code2 a.o;
-    dest = a.i.dest;
+    dest = a.i.now.dest;
     lit = no_lit;
-    args = c.home_in-x.ensures z ∷ c.home_in-y.ensures z ∷ [];
+    args = c.home-x.ensures z ∷ c.home-y.ensures z ∷ [];
     callee = 0;
     blocks = take (targets (two_shape a.o z) 2) (replicate 8 0);
   }),

@@ -1,40 +1,44 @@
 -- `lvn_instr::replace_args` meets its contract.
-use Prim.Native.Nat.{ℕ, ◌≤◌}
-use mathlib.Core.List.{map}
-use mathlib.Core.Path.{◌≡◌, refl, sym, ap, ◌∙◌}
+use Prim.Native.Nat.{ℕ, suc, ◌+◌, ◌<◌}
+use mathlib.Core.List.{List, ◌∷◌}
+use mathlib.Core.Path.{◌≡◌, sym, ap, ◌∙◌}
+use native.Mathlib.Numerals.{add-one}
 use native.Mathlib.Omega.{arith}
-use lib.ListN.{length, get_or, length-set}
-use borrow.Author.Rules.{rules}
+use lib.ListN.{length, get_or, set, drop}
+use lib.Seq.{drop-cons}
+use Rattle.std.proofs.lemmas.List.{drop-set-lt}
 use Rattle.record.specs.Record.{nm}
-use Rattle.numbering.specs.State.{home_of}
+use Rattle.numbering.specs.State.{State, home_of, number_of}
 use Rattle.lvn_state.proofs.Seen.{replaced_next}
-use Rattle.lvn_state.specs.View.{locs_of, names_in}
-use Rattle.lvn_instr.proofs.Values.{home_read}
+use Rattle.lvn_state.specs.View.{state_of}
 use Rattle.lvn_instr.proofs.replace_args.Goals as goal
 
-pub loop-at-init : goal.loop-at-init
-loop-at-init c = (search rules, (search rules, λ s d e. refl))
+module _ (l m : List ℕ) (i : ℕ) (a : i < length l) (b : i < length m) (e : drop i l ≡ drop i m) where
+  both : get_or l i 0 ∷ drop (suc i) l ≡ get_or m i 0 ∷ drop (suc i) m
+  both = sym (drop-cons l i 0 a) ∙ e ∙ drop-cons m i 0 b
 
-pub loop-at-preserved : goal.loop-at-preserved
-loop-at-preserved c = let a = c.args in
-    let l = c.loop-at in
-    let k : length a.args ≡ 8 = search rules in
-    let few : a.n ≤ 8 = c.requires in
-    let o : length l.out ≡ 8 = l.invariant.1.0 in
-    let x = nm (get_or a.args l.at 0) in (
-      search rules,
-      (
-        simp length-set l.invariant.1.0,
-        λ s d e.
-            replaced_next (home_of s) l.out a.args l.at c.home_in-x.result (omega arith) (omega arith)
-            (c.home_in-x.ensures ∙ ap (locs_of a.homes.now) c.number_in-v.ensures ∙
-            home_read s a.env.now a.homes.now d e x)
-            (l.invariant.1.1 s d e),
-      ),
+  stands : get_or l i 0 ≡ get_or m i 0
+  stands = let p = both in cc
+
+  rest_kept : (v : ℕ) → drop (i + 1) (set l i v) ≡ drop (i + 1) m
+  rest_kept v =
+      let p = both in
+      let e : drop (suc i) l ≡ drop (suc i) m = cc in
+      drop-set-lt (i + 1) l i v (omega arith) ∙ ap (λ n. drop n l) (add-one i) ∙ e ∙ sym (ap (λ n. drop n m) (add-one i))
+
+homed : (s : State) (x y : ℕ) → x ≡ y → s.locs (number_of s (nm x)) ≡ home_of s (nm y)
+unfolding home_of
+homed s x y e = ap (λ (n : ℕ). s.locs (number_of s (nm n))) e
+
+pub loop-x-preserved : goal.loop-x-preserved
+loop-x-preserved c = let l = c.loop-x in
+    let old = c.args.args.now in
+    let s = state_of c.args.st.now in
+    let k : length l.args ≡ length old = l.auto.args in
+    let h : l.x-index < length old = c.loop-x-test.true in
+    let g : l.x-index < length l.args = omega arith in (
+      replaced_next (home_of s) l.args old l.x-index c.home.result g h
+          (c.home.ensures ∙ ap s.locs c.number_of.ensures.0 ∙ homed s _ _ (stands l.args old l.x-index g h l.invariant.1))
+          l.invariant.0,
+      rest_kept l.args old l.x-index g h l.invariant.1 c.home.result.0,
     )
-
-pub returns : goal.returns
-returns c = let l = c.loop-at in
-    let a = c.args in
-    let z : l.at ≡ a.n = omega arith in
-    λ s d e. ap (λ (i : ℕ). names_in i l.out) (sym z) ∙ l.invariant.1.1 s d e ∙ ap (λ (i : ℕ). map (home_of s) (names_in i a.args)) z

@@ -1,15 +1,13 @@
--- What the loop keeps, and its measure.
-use Prim.Native.Nat.{◌-◌, ◌≤◌}
+-- What the loop keeps: the names before here are replaced, and the others still stand.
 use mathlib.Core.List.{map}
 use mathlib.Core.Path.{◌≡◌}
-use lib.ListN.{length}
-use Rattle.numbering.specs.State.{State, home_of}
-use Rattle.lvn_state.specs.View.{env_of, locs_of, names_in}
+use lib.ListN.{take, drop}
+use Rattle.record.specs.Record.{nm}
+use Rattle.numbering.specs.State.{home_of}
+use Rattle.lvn_state.specs.View.{state_of}
 use Rattle.lvn_instr.proofs.replace_args.Given as goal
 
-abbrev pub invariant-loop-at : goal.invariant-loop-at
-invariant-loop-at l = (l.at ≤ l.m) × ((length l.out ≡ 8) ×
-    ((s : State) → s.env ≡ env_of l.env → s.locs ≡ locs_of l.homes → names_in l.at l.out ≡ map (home_of s) (names_in l.at l.args)))
-
-abbrev pub decreases-loop-at : goal.decreases-loop-at
-decreases-loop-at l = l.m - l.at
+abbrev pub invariant-loop-x : goal.invariant-loop-x
+invariant-loop-x l =
+    (map nm (take l.x-index l.args) ≡ map (home_of (state_of l.st)) (map nm (take l.x-index l.initial.args))) ×
+    (drop l.x-index l.args ≡ drop l.x-index l.initial.args)

@@ -9,6 +9,6 @@ pub returns-then-i-types : goal.returns-then-i-types
 unfolding type_in
 returns-then-i-types c = search rules
 
-pub returns : goal.returns
+pub returns-else-i-types : goal.returns-else-i-types
 unfolding type_in
-returns c = let a = c.args in sym (get_or-eq_default a.types.now 0 c.if-i-types.false)
+returns-else-i-types c = let a = c.args in sym (get_or-eq_default a.types.now 0 c.if-i-types.false)

@@ -1,12 +1,9 @@
--- What the loop keeps, and its measure.
-use Prim.Native.Nat.{◌-◌, ◌≤◌}
+-- What the loop keeps.
+use Prim.Native.Nat.{◌-◌}
 use mathlib.Core.Bool.{◌||◌}
 use mathlib.Core.Path.{◌≡◌}
 use Rattle.lvn_values.specs.Table.{holds}
 use Rattle.lvn_values.proofs.holds.Given as goal
 
 abbrev pub invariant-loop-i : goal.invariant-loop-i
-invariant-loop-i l = (l.i ≤ l.n) × (l.hit || holds l.l l.x l.i (l.n - l.i) ≡ holds l.l l.x 0 l.n)
-
-abbrev pub decreases-loop-i : goal.decreases-loop-i
-decreases-loop-i l = l.n - l.i
+invariant-loop-i l = l.hit || holds l.l l.x l.i (l.count - l.i) ≡ holds l.l l.x 0 l.count

@@ -1,23 +1,26 @@
 -- `read_fields::indexes_at` meets its contract: the rest from here gives the whole answer.
-use mathlib.Core.Path.{refl, sym, ◌∙◌}
+use mathlib.Core.Path.{◌≡◌, refl, sym, ap, ◌∙◌}
+use Rattle.std.proofs.Common.{◌-◌, ◌+◌, ◌<◌}
 use native.Mathlib.Omega.{arith}
-use Rattle.record.specs.Reader.{field}
+use Rattle.record.specs.Reader.{field, times}
 use Rattle.record.specs.Tests.{below}
-use Rattle.record.proofs.Following.{times_stopped, times_went, times_done}
+use Rattle.record.specs.Answer.{verdict}
+use Rattle.record.proofs.Following.{handed_on, row_stopped, row_went, times_done}
 use Rattle.read_fields.proofs.indexes_at.Goals as goal
 
-pub loop-left-init : goal.loop-left-init
-loop-left-init c = refl
+pub loop-init : goal.loop-init
+loop-init c = let e : c.args.count - 0 ≡ c.args.count = omega arith in ap (λ k. verdict (times k (λ _. field 2 (below c.args.n)) c.args.s.now c.args.at)) e
 
-pub returns-in-Refused : goal.returns-in-Refused
-returns-in-Refused c = times_stopped (λ left. field 2 (below _)) _ _ _ c.loop-left-test.true _ _
-    (sym c.index_at.ensures ∙ c.in-Refused.is)
-    ∙ c.loop-left.invariant
+pub returns-in_err-p : goal.returns-in_err-p
+returns-in_err-p c =
+    handed_on c.from_residual.result c.in_err-p.field-0.0 c.from_residual.ensures.1
+    ∙ row_stopped (field 2 (below c.args.n)) _ _ _ _ c.loop-test.true _ (sym c.index_at.ensures ∙ c.in_err-p.was)
+    ∙ c.loop.invariant
 
-pub loop-left-preserved : goal.loop-left-preserved
-loop-left-preserved c = times_went (λ left. field 2 (below _)) _ _ _ c.loop-left-test.true _
-    (sym c.index_at.ensures ∙ c.in-At.is)
-    ∙ c.loop-left.invariant
+pub loop-preserved : goal.loop-preserved
+loop-preserved c =
+    row_went (field 2 (below c.args.n)) _ _ _ _ c.loop-test.true _ (sym c.index_at.ensures ∙ c.in_ok-p.was)
+    ∙ c.loop.invariant
 
 pub returns : goal.returns
-returns c = times_done (λ left. field 2 (below _)) _ _ _ (omega arith) ∙ c.loop-left.invariant
+returns c = times_done (λ left. field 2 (below c.args.n)) c.args.s.now c.loop.p (c.args.count - c.loop.counter) (omega arith) ∙ c.loop.invariant

@@ -2,4 +2,4 @@
 use Rattle.read_instrs.proofs.two_if.Goals as goal
 
 pub returns-then-there : goal.returns-then-there
-returns-then-there c = rw c.if-there.true c.be16.ensures.0
+returns-then-there c = rw c.if-there.true c.be.ensures.0

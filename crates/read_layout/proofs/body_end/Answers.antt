@@ -1,18 +1,20 @@
 -- `read_layout::body_end` meets its contract: the place behind those left from p on is the place behind all.
-use mathlib.Core.Path.{refl, ◌∙◌}
+use mathlib.Core.Path.{◌≡◌, refl, ap, ◌∙◌}
+use Prim.Native.Nat.{◌-◌}
 use native.Mathlib.Omega.{arith}
-use Rattle.record.proofs.Rows.{behind_went, behind_done}
+use Rattle.record.specs.Decode.{behind, instr_end}
+use Rattle.record.proofs.Rows.{behind_next, behind_done}
 use Rattle.read_layout.proofs.body_end.Goals as goal
 
-pub loop-left-init : goal.loop-left-init
-loop-left-init c = (omega arith, refl)
+pub loop-init : goal.loop-init
+loop-init c = let e : c.args.n - 0 ≡ c.args.n = omega arith in
+    (omega arith, ap (behind (instr_end c.args.w c.args.s.now) c.args.at) e)
 
-pub loop-left-preserved : goal.loop-left-preserved
-loop-left-preserved c = let h = c.loop-left-test.true in
-    let inv = c.loop-left.invariant in
+pub loop-preserved : goal.loop-preserved
+loop-preserved c = let inv = c.loop.invariant in
     let e = c.instr_end-p.ensures in
-    (omega (arith, inv.0, e.1), behind_went _ _ _ h _ e.0 ∙ inv.1)
+    (omega (arith, inv.0, e.1, c.loop-test.true), behind_next _ _ _ _ c.loop-test.true _ e.0 ∙ inv.1)
 
 pub returns : goal.returns
-returns c = let l = c.loop-left in
-    (behind_done _ _ _ (omega arith) ∙ l.invariant.1, omega (arith, l.invariant.0))
+returns c = let inv = c.loop.invariant in
+    (behind_done _ _ (c.args.n - c.loop.counter) (omega arith) ∙ inv.1, omega (arith, inv.0))

@@ -1,5 +1,5 @@
--- What the loop keeps, and its measure.
-use Prim.Native.Nat.{◌+◌, ◌<◌}
+-- What the loop keeps.
+use Prim.Native.Nat.{◌-◌, ◌<◌}
 use mathlib.Core.Path.{◌≡◌}
 use lib.ListN.{length}
 use lib.Seq.{sets}
@@ -8,10 +8,7 @@ use Rattle.record.specs.Sizes.{places_end}
 use Rattle.read_layout.specs.Layout.{blocks_from}
 use Rattle.read_layout.proofs.fill_blocks.Given as goal
 
-abbrev pub invariant-loop-left : goal.invariant-loop-left
-invariant-loop-left l = (l.i + l.left ≡ l.n) × (l.p < places_end) × (length l.places ≡ length l.initial.places)
-    × (behind (block_end l.w l.s) l.p l.left ≡ behind (block_end l.w l.s) l.at l.n)
-    × (sets l.places l.i (blocks_from l.w l.s l.p l.left) ≡ sets l.initial.places 0 (blocks_from l.w l.s l.at l.n))
-
-abbrev pub decreases-loop-left : goal.decreases-loop-left
-decreases-loop-left l = l.left
+abbrev pub invariant-loop-i : goal.invariant-loop-i
+invariant-loop-i l = (l.p < places_end) × (length l.places ≡ length l.initial.places)
+    × (behind (block_end l.w l.s) l.p (l.fn.n - l.i) ≡ behind (block_end l.w l.s) l.at l.n)
+    × (sets l.places l.i (blocks_from l.w l.s l.p (l.fn.n - l.i)) ≡ sets l.initial.places 0 (blocks_from l.w l.s l.at l.n))

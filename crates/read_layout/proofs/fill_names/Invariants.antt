@@ -1,5 +1,5 @@
--- What the loop keeps, and its measure.
-use Prim.Native.Nat.{◌+◌, ◌*◌, ◌≤◌}
+-- What the loop keeps.
+use Prim.Native.Nat.{◌+◌, ◌-◌, ◌*◌, ◌≤◌}
 use mathlib.Core.Path.{◌≡◌}
 use lib.ListN.{length}
 use lib.Seq.{sets}
@@ -8,12 +8,9 @@ use Rattle.read_layout.specs.Bounds.{name_reach}
 use Rattle.read_layout.specs.Layout.{types_from, places_from}
 use Rattle.read_layout.proofs.fill_names.Given as goal
 
-abbrev pub invariant-loop-left : goal.invariant-loop-left
-invariant-loop-left l = (l.i + l.left ≡ l.n) × (l.p + name_reach * l.left ≤ l.at + name_reach * l.n)
+abbrev pub invariant-loop-i : goal.invariant-loop-i
+invariant-loop-i l = (l.p + name_reach * (l.fn.n - l.i) ≤ l.at + name_reach * l.n)
     × (length l.types ≡ length l.initial.types) × (length l.places ≡ length l.initial.places)
-    × (behind (name_end l.s) l.p l.left ≡ behind (name_end l.s) l.at l.n)
-    × (sets l.types l.i (types_from l.s l.p l.left) ≡ sets l.initial.types 0 (types_from l.s l.at l.n))
-    × (sets l.places l.i (places_from l.s l.p l.left) ≡ sets l.initial.places 0 (places_from l.s l.at l.n))
-
-abbrev pub decreases-loop-left : goal.decreases-loop-left
-decreases-loop-left l = l.left
+    × (behind (name_end l.s) l.p (l.fn.n - l.i) ≡ behind (name_end l.s) l.at l.n)
+    × (sets l.types l.i (types_from l.s l.p (l.fn.n - l.i)) ≡ sets l.initial.types 0 (types_from l.s l.at l.n))
+    × (sets l.places l.i (places_from l.s l.p (l.fn.n - l.i)) ≡ sets l.initial.places 0 (places_from l.s l.at l.n))

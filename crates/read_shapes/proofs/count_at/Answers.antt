@@ -1,17 +1,17 @@
 -- `read_shapes::count_at` meets its contract: a field, and then its test.
 use mathlib.Core.Path.{sym, ap, ◌∙◌}
 use Rattle.record.specs.Tests.{count_test}
-use Rattle.record.proofs.Following.{tested_no, field_judged}
+use Rattle.record.proofs.Following.{handed_on, tested_no, field_judged}
 use Rattle.read_fields.specs.Answer.{res}
 use Rattle.read_shapes.proofs.count_at.Goals as goal
 
-pub returns-in-Is : goal.returns-in-Is
-returns-in-Is c = let a = c.args in
-    field_judged 1 (count_test a.sh) a.s.now a.at _ _ _ _
-    (sym c.one_at.ensures ∙ ap res c.in-Is.is)
-    c.count_test.ensures c.judged.ensures
+pub returns-in_err-x : goal.returns-in_err-x
+returns-in_err-x c = let a = c.args in
+    ap res (handed_on c.from_residual.result c.in_err-x.field-0.0 c.from_residual.ensures.1)
+    ∙ tested_no 1 (count_test a.sh) a.s.now a.at _ _ (sym c.field_at.ensures ∙ ap res c.in_err-x.was)
 
-pub returns-in-No : goal.returns-in-No
-returns-in-No c = let a = c.args in
-    tested_no 1 (count_test a.sh) a.s.now a.at _ _
-    (sym c.one_at.ensures ∙ ap res c.in-No.is)
+pub returns : goal.returns
+returns c = let a = c.args in
+    field_judged 1 (count_test a.sh) a.s.now a.at _ _ _ _
+    (sym c.field_at.ensures ∙ ap res c.in_ok-x.was)
+    c.count_test.ensures c.judged.ensures

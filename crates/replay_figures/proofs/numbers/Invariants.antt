@@ -1,11 +1,6 @@
--- What the loop keeps, and its measure.
-use lib.ListN.{length}
-use Prim.Native.Nat.{◌-◌, ◌≤◌}
-use mathlib.Core.Path.{◌≡◌}
+-- One number is read a turn.
+use Rattle.std.proofs.Common.{◌≡◌}
 use Rattle.replay_figures.proofs.numbers.Given as goal
 
-abbrev pub invariant-loop-n : goal.invariant-loop-n
-invariant-loop-n l = (length l.into ≡ length l.initial.into) × (l.n ≤ length l.into)
-
-abbrev pub decreases-loop-n : goal.decreases-loop-n
-decreases-loop-n l = length l.initial.into - l.n
+abbrev pub invariant-loop-x : goal.invariant-loop-x
+invariant-loop-x l = l.n ≡ l.x-index

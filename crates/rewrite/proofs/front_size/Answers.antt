@@ -5,9 +5,9 @@ use Rattle.rewrite.proofs.Known.{few_made, made_named, front_measured}
 use Rattle.rewrite.proofs.front_size.Goals as goal
 
 pub made_size-requires : goal.made_size-requires
-made_size-requires c = let p = c.requires in
-    let m = p.1.0 in
-    (few_made p.0 m, (m.room, (made_named p.0 m, (p.1.1, names_lie p.0))))
+made_size-requires c = let p = c.requires.0 in
+    let m = c.requires.1.0 in
+    (few_made p m, (made_named p m, names_lie p))
 
 pub overflow_add-result-2 : goal.overflow_add-result-2
 overflow_add-result-2 c = let p = c.requires in

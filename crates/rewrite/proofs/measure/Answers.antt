@@ -5,7 +5,7 @@ use Rattle.rewrite.proofs.Parts.{parts_size}
 use Rattle.rewrite.proofs.measure.Goals as goal
 
 pub returns : goal.returns
-returns c = let s = c.args.s.now in
+returns c = let s = c.args.src.now.reads.now in
     let f = c.front_size-at.ensures in
     let b = c.put_blocks-b.ensures in (
       parts_size (rewriting_in s) 0 c.front_size-at.result c.put_blocks-b.result.at.q f.0 (omega (arith, b.0.end)),

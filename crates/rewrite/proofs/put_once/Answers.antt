@@ -8,26 +8,24 @@ use Rattle.rewrite.proofs.Parts.{parts_size, parts_moved}
 use Rattle.rewrite.proofs.put_once.Goals as goal
 
 pub front_size-at-requires : goal.front_size-at-requires
-front_size-at-requires c = let p = c.requires in
-    (p.0.reads, (c.put_blocks-b.ensures.1.0, p.1.0))
+front_size-at-requires c = (c.requires.0.opened.reads, (c.put_blocks-b.ensures.1.0.saved, c.requires.1.0))
 
 pub move_up-requires : goal.move_up-requires
-move_up-requires c = let n = c.put_blocks-b.result.at.q - (c.args.end + 2) in
+move_up-requires c = let n = c.put_blocks-b.result.at.q - (c.args.src.now.layout.end + 2) in
     let f = c.front_size-at.ensures in
-    let size = parts_size (rewriting_in c.args.s.now) 0 c.front_size-at.result n f.0
+    let size = parts_size (rewriting_in c.args.src.now.reads.now) 0 c.front_size-at.result n f.0
     (omega (arith, c.put_blocks-b.ensures.0.end)) in
     (f.1.1, omega (arith, size, c.requires.1.1, c.put_blocks-b.auto))
 
 pub overflow_sub-at : goal.overflow_sub-at
-overflow_sub-at c = omega (arith, c.front_size-at.ensures.1.1, names_on c.requires.0.reads)
+overflow_sub-at c = omega (arith, c.front_size-at.ensures.1.1, names_on c.requires.0.opened.reads)
 
 pub put_front-requires : goal.put_front-requires
-put_front-requires c = let p = c.requires in
-    (p.0.reads, (c.put_blocks-b.ensures.1.0, p.1.0))
+put_front-requires c = (c.requires.0.opened.reads, (c.put_blocks-b.ensures.1.0.saved, c.requires.1.0))
 
 pub returns : goal.returns
-returns c = let R = rewriting_in c.args.s.now in
-    let n = c.put_blocks-b.result.at.q - (c.args.end + 2) in
+returns c = let R = rewriting_in c.args.src.now.reads.now in
+    let n = c.put_blocks-b.result.at.q - (c.args.src.now.layout.end + 2) in
     let b = c.put_blocks-b.ensures in
     let f = c.front_size-at.ensures in (
       parts_size R 0 c.front_size-at.result n f.0 (omega (arith, b.0.end)),

@@ -7,18 +7,21 @@ use Rattle.rewrite.proofs.rewrite_accepted.Goals as goal
 
 pub slice_bounds-types-end : goal.slice_bounds-types-end
 slice_bounds-types-end c = let p = c.requires in
-    omega (arith, few_in _ p _ c.layout_of-head.ensures.0, c.layout_of-head.auto)
+    omega (arith, few_in _ p _ c.layout_of-layout.ensures.0, c.layout_of-layout.auto)
 
-pub slice_bounds-rewrite_typed-end : goal.slice_bounds-rewrite_typed-end
-slice_bounds-rewrite_typed-end c = let p = c.requires in
-    sym (length-take-le _ _ (omega (arith, few_in _ p _ c.layout_of-head.ensures.0, c.layout_of-head.auto)))
+pub slice_bounds-src-end : goal.slice_bounds-src-end
+slice_bounds-src-end c = let p = c.requires in
+    sym (length-take-le _ _ (omega (arith, few_in _ p _ c.layout_of-layout.ensures.0, c.layout_of-layout.auto)))
 
 pub rewrite_typed-requires : goal.rewrite_typed-requires
 rewrite_typed-requires c = let p = c.requires in
-    let head = c.layout_of-head.ensures in
+    let head = c.layout_of-layout.ensures in
     record {
-      reads = accepted_reads _ p _ head.0 head.1;
-      types = types_first _ p _ head.0 _ head.2;
+      opened = record {
+        reads = accepted_reads _ p _ head.0 head.1;
+        layout = head.0;
+        types = types_first _ p _ head.0 _ head.2;
+      };
       places = placed_first _ p _ head.0 _ head.3;
     }
 

@@ -11,16 +11,8 @@ returns-then-out-size c = let out = c.args.out.now in
 pub put_record-requires : goal.put_record-requires
 put_record-requires c = let p = c.requires in
     let k = c.measure-size.auto in
-    let r = c.measure-size.ensures in (
-      record {
-        reads = p.0.reads;
-        types = p.0.types;
-        heads = omega (arith, p.0.heads, k);
-        nums = omega (arith, p.0.nums, k);
-        names = omega (arith, p.0.names, k);
-      },
-      (p.1, (r.1.0, (r.0, r.1.1.0))),
-    )
+    let r = c.measure-size.ensures in
+    (record { opened = p.0.opened; names = omega (arith, p.0.names, k) }, (p.1, (r.1.0, (r.0, r.1.1.0))))
 
 pub returns : goal.returns
 returns c = let out = c.args.out.now in

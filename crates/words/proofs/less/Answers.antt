@@ -1,8 +1,7 @@
--- `words::less` meets its contract: the order of words shifted by half their range.
-use Rattle.std.proofs.Common.{ltb, ap₂}
-use Rattle.arith.specs.Word.{lt_w, add_w}
+-- `words::less` meets its contract: the order of the ints of both words.
+use Rattle.std.proofs.Common.{arith}
+use Rattle.words.proofs.Division.{order}
 use Rattle.words.proofs.less.Goals as goal
 
 pub returns : goal.returns
-unfolding lt_w add_w
-returns c = ap₂ ltb c.add.ensures c.add-2.ensures
+returns c = order c.args.a c.args.b (omega arith) (omega arith) c.cast_signed.ensures c.cast_signed-2.ensures

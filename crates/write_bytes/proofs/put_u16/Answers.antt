@@ -1,9 +1,7 @@
--- `write_bytes::put_u16` meets its contract: the two halves, one behind the other.
-use Rattle.record.proofs.Stands.{length_be}
-use Rattle.write_bytes.proofs.Numbers.{be_2}
-use Rattle.write_bytes.proofs.Put.{put_then}
+-- `write_bytes::put_u16` meets its contract: the number's bytes.
+use native.Mathlib.Omega.{arith}
+use Rattle.write_bytes.proofs.Numbers.{bytes_put}
 use Rattle.write_bytes.proofs.put_u16.Goals as goal
 
 pub returns : goal.returns
-returns c = put_then _ _ 1 _ _ _ (be_2 _) (length_be 1 _)
-    c.put_u8.ensures c.put_u8-2.ensures
+returns c = let a = c.args in bytes_put a.out.now a.at 1 a.x (omega arith) c.to_be_bytes.ensures c.put_bytes.ensures

@@ -1,14 +1,17 @@
 -- `lvn_state::LvnState::give` meets its contract.
-use Prim.Native.Nat.{◌<◌, ◌≤◌}
+use mathlib.Core.Path.{◌≡◌}
 use native.Mathlib.Omega.{arith}
+use borrow.Author.Rules.{rules}
 use lib.ListN.{length}
 use Rattle.lvn_state.proofs.Steps.{give_view}
 use Rattle.lvn_state.proofs.LvnState.give.Goals as goal
 
 pub returns : goal.returns
-returns c = let a = c.args in
+returns c = let s = c.args.self.now in
+    let k : length s.env ≡ 256 = search rules in
+    let m : length s.homes ≡ 512 = search rules in
     let p = c.requires in
-    let m : length a.homes.now ≤ 65535 = p.1.1.maps.numbers in
-    let n : a.self.count < length a.homes.now = p.1.0 in
-    give_view a.env.now a.homes.now a.self a.heads.now a.nums.now a.x p.0 n (λ e. omega arith) _ _ _
-    (omega (arith, p.1.1.heads)) (omega (arith, p.1.1.nums)) c.entry_of-e.ensures
+    let e = c.push.ensures in
+    give_view s.env s.homes s.values.heads s.values.nums s.values.count s.made c.args.x (omega (arith, p.0))
+    c.push.new.self.heads c.push.new.self.nums c.count-k.result c.push.new.self.count _
+    (omega (arith, p.1)) (λ q. omega (arith, p.1, q)) c.count-k.ensures.0 e.0 e.1

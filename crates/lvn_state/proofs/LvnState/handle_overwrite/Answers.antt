@@ -1,45 +1,41 @@
 -- `lvn_state::LvnState::handle_overwrite` meets its contract.
-use mathlib.Core.Bool.{false}
-use mathlib.Core.Path.{◌≡◌, sym, ◌∙◌}
+use mathlib.Core.Path.{◌≡◌, sym}
 use native.Mathlib.Omega.{arith}
+use borrow.Author.Rules.{rules}
+use lib.ListN.{length}
 use Rattle.numbering.specs.View.{expr_of}
-use Rattle.lvn_state.specs.View.{locs_of, itself}
 use Rattle.lvn_state.proofs.Saves.{kept_itself, kept_past, kept_away, save_made}
 use Rattle.lvn_state.proofs.LvnState.handle_overwrite.Goals as goal
+use Rattle.lvn_state.proofs.LvnState.handle_overwrite.Goals.{then-num-ge-NUMBERS-via-then-num-ge-NUMBERS, then-num-ge-NUMBERS-via-else-num-ge-NUMBERS+then-self-num}
 
-pub overflow_cast-k : goal.overflow_cast-k
-overflow_cast-k c = omega (arith, c.type_inv.env c.args.dest.0)
+pub returns-then-writes_home : goal.returns-then-writes_home
+returns-then-writes_home c = let s = c.args.self.now in
+    let k : length s.env ≡ 256 = search rules in
+    let v = s.values in
+    kept_itself s.env s.homes v.heads v.nums v.count s.made c.args.n c.args.dest (omega (arith, c.requires.0)) (expr_of c.args.v)
+    (sym c.if-writes_home.ensures)
 
-pub returns-then-homes-k : goal.returns-then-homes-k
-returns-then-homes-k c = let a = c.args in
+pub returns-then-num-ge-NUMBERS : goal.returns-then-num-ge-NUMBERS
+returns-then-num-ge-NUMBERS c = let s = c.args.self.now in
+    let k : length s.env ≡ 256 = search rules in
+    let h : length s.homes ≡ 512 = search rules in
+    let v = s.values in
     let p = c.requires in
-    let w = c.writes_home in
-    let t : itself (locs_of a.homes.now) a.dest (expr_of a.v) ≡ false =
-    sym w.ensures ∙ c.if-not-writes_home.true in
-    save_made a.env.now a.homes.now a.self a.n a.dest p.0 (expr_of a.v) t c.if-k-homes.true
-    p.1.1.numbers c.if-homes-k.true p.1.0
+    let t = sym c.if-writes_home.ensures in
+    elim c.then-num-ge-NUMBERS.branch [
+      | then-num-ge-NUMBERS-via-then-num-ge-NUMBERS w ↦
+          kept_past s.env s.homes v.heads v.nums v.count s.made c.args.n c.args.dest (omega (arith, p.0)) (expr_of c.args.v) t
+          (let l = w.if-num-ge-NUMBERS.true in omega (arith, l)) (omega (arith, p.0))
+      | then-num-ge-NUMBERS-via-else-num-ge-NUMBERS+then-self-num w ↦
+          kept_away s.env s.homes v.heads v.nums v.count s.made c.args.n c.args.dest (omega (arith, p.0)) (expr_of c.args.v) t
+          (let l = w.if-num-ge-NUMBERS.false in omega (arith, l)) (omega arith) w.if-self-num.true
+    ]
 
-pub returns-else-homes-k : goal.returns-else-homes-k
-returns-else-homes-k c = let a = c.args in
+pub returns : goal.returns
+returns c = let s = c.args.self.now in
+    let k : length s.env ≡ 256 = search rules in
+    let h : length s.homes ≡ 512 = search rules in
+    let v = s.values in
     let p = c.requires in
-    let w = c.writes_home in
-    let t : itself (locs_of a.homes.now) a.dest (expr_of a.v) ≡ false =
-    sym w.ensures ∙ c.if-not-writes_home.true in
-    kept_away a.env.now a.homes.now a.self a.n a.dest p.0 (expr_of a.v) t c.if-k-homes.true
-    p.1.1.numbers c.if-homes-k.false
-
-pub returns-else-k-homes : goal.returns-else-k-homes
-returns-else-k-homes c = let a = c.args in
-    let p = c.requires in
-    let w = c.writes_home in
-    let t : itself (locs_of a.homes.now) a.dest (expr_of a.v) ≡ false =
-    sym w.ensures ∙ c.if-not-writes_home.true in
-    kept_past a.env.now a.homes.now a.self a.n a.dest p.0 (expr_of a.v) t c.if-k-homes.false
-    (omega (arith, p.0, p.1.1.names))
-
-pub returns-else-not-writes_home : goal.returns-else-not-writes_home
-returns-else-not-writes_home c = let a = c.args in
-    let p = c.requires in
-    let w = c.writes_home in
-    kept_itself a.env.now a.homes.now a.self a.n a.dest p.0 (expr_of a.v)
-    (sym w.ensures ∙ c.if-not-writes_home.false)
+    save_made s.env s.homes v.heads v.nums v.count s.made c.args.n c.args.dest (omega (arith, p.0)) (expr_of c.args.v)
+    (sym c.if-writes_home.ensures) (omega arith) (omega arith) c.if-self-num.false

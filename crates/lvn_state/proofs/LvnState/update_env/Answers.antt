@@ -1,6 +1,12 @@
 -- `lvn_state::LvnState::update_env` meets its contract.
+use mathlib.Core.Path.{◌≡◌}
+use native.Mathlib.Omega.{arith}
+use borrow.Author.Rules.{rules}
+use lib.ListN.{length}
 use Rattle.lvn_state.proofs.Steps.{take_view}
 use Rattle.lvn_state.proofs.LvnState.update_env.Goals as goal
 
 pub returns : goal.returns
-returns c = let a = c.args in λ homes hs ns. take_view a.env.now homes a.self hs ns a.x c.requires.0 a.v c.requires.1
+returns c = let s = c.args.self.now in
+    let k : length s.env ≡ 256 = search rules in
+    take_view s.env s.homes s.values.heads s.values.nums s.values.count s.made c.args.x (omega (arith, c.requires.0)) c.args.v c.requires.1

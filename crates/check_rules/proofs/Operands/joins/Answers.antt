@@ -1,0 +1,6 @@
+-- `check_rules::Operands::joins` meets its contract: by the types that the rule asks for.
+use Rattle.check_rules.proofs.Laws.{kept_joins}
+use Rattle.check_rules.proofs.Operands.joins.Goals as goal
+
+pub returns : goal.returns
+returns c = kept_joins c.args.self.now _ 0 0 _ _ c.byte-n.ensures c.index_type.ensures c.each_is.ensures

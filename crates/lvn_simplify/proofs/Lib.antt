@@ -1,3 +1,0 @@
-pub mod Folds
-pub mod Identities
-pub mod Others

@@ -1,0 +1,7 @@
+-- `lvn_state::LvnState::known` meets its contract.
+use Rattle.numbering.specs.State.{known}
+use Rattle.lvn_state.proofs.LvnState.known.Goals as goal
+
+pub returns : goal.returns
+unfolding known
+returns c = c.known.ensures
