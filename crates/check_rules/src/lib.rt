@@ -214,7 +214,8 @@ impl<'a> Operands<'a> {
     }
 }
 
-// Whether the instruction at a place keeps to the rule of its code; w: the bytes of an id.
+// Whether the instruction at a place keeps to the rule of its code; w: the bytes of an id. A match, since a rule may have types of its own,
+// which a table of functions could not hand on.
 pub fn typed_at(s: &[u8], types: &[u8], w: usize, at: usize) -> bool
     requires { (w ≤ 8) × (at + 9 + joins_reach < places) }
     ensures { result ≡ well_typed (type_in types.now) (instr_from w s.now at) }

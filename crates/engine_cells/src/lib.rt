@@ -15,7 +15,8 @@ ghost use Rattle.read_fields.specs.Places.{places};
 ghost use Rattle.write_bytes.specs.Put.{Wrote};
 ghost use Rattle.engine_cells.specs.Cells.{cell_holds, cell_in, int_held, bool_held, value_in, store_in, row_from, size_of, RowWritten};
 
-// The type bytes of int and bool and of an int literal held by a float, which is the last without a pointer; and nothing.
+// The type bytes of int and bool and of an int literal held by a float, which is the last without a pointer; and nothing: the house form's
+// own bytes.
 pub const INT: u8 = 0x00;
 
 pub const BOOL: u8 = 0x01;

@@ -191,6 +191,7 @@ pub fn read_answers(s: &[u8]) -> Option<usize>
     }
     let mut p = 5;
     let mut n = 0;
+    // How many answers there are is not known before they are read, so nothing is counted up to.
     while p < s.len() {
         p = answer_at(s, p)?.end;
         n += 1;

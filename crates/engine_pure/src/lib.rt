@@ -147,7 +147,8 @@ fn shift(s: &[u8], at: usize, cells: &Cells) -> Result<Cell, Stop>
     })
 }
 
-// The value of the codes 1 to 14. not and id have one operand, the others two.
+// The value of the codes 1 to 14. not and id have one operand, the others two. A match, since a table of functions has to be made and called
+// through at each step.
 fn value(s: &[u8], at: usize, code: u64, cells: &Cells) -> Result<Cell, Stop>
     requires { ((1 ≤ code) × (code ≤ 14)) × (at + (3 + 2 * operands code) ≤ length s.now) }
     ensures { cells_held result ≡ told (eval (store_in cells.now) (expr_at code s.now at)) }

@@ -33,8 +33,8 @@ impl Parts {
 }
 
 // A number in one byte and each value in eight, from the first byte on; how many bytes they are.
-fn put_returned(out: &mut [u8], number: u8, values: &[u64]) -> usize
-    requires { (length values.now ≤ 5) × (41 ≤ length out.old) }
+fn put_returned(out: &mut [u8; HEAD], number: u8, values: &[u64]) -> usize
+    requires { length values.now ≤ 5 }
     ensures end { result ≡ 1 + 8 * length values.now }
     ensures bytes { take result out.new ≡ returned_bytes (record { number = number; values = values.now }) }
 {
@@ -48,8 +48,7 @@ fn put_returned(out: &mut [u8], number: u8, values: &[u64]) -> usize
 }
 
 // The engine's answer: its number and as many values as it has; how many bytes they are.
-fn put_answer(out: &mut [u8], a: Result<Run, RunError>) -> usize
-    requires { 41 ≤ length out.old }
+fn put_answer(out: &mut [u8; HEAD], a: Result<Run, RunError>) -> usize
     ensures { (result ≤ 41) × (take result out.new ≡ returned_bytes (engine_answer a)) }
 {
     let n = engine_answer::in_numbers(a);
@@ -57,8 +56,7 @@ fn put_answer(out: &mut [u8], a: Result<Run, RunError>) -> usize
 }
 
 // 10 with its value, and nothing behind it.
-fn put_refused(out: &mut [u8], value: usize) -> Parts
-    requires { 41 ≤ length out.old }
+fn put_refused(out: &mut [u8; HEAD], value: usize) -> Parts
     ensures { (result ≡ record { head = 9; events = 0; left = 0 }) × (take 9 out.new ≡ refused_input value) }
 {
     Parts::answer(put_returned(out, 10, &[value as u64]))
@@ -97,11 +95,11 @@ fn run_from(
     a: usize,
     b: usize,
     c: usize,
-    head: &mut [u8],
+    head: &mut [u8; HEAD],
     events: &mut [u8],
     left: &mut [u8],
 ) -> Parts
-    requires { (a ≤ b) × ((b ≤ c) × ((c ≤ length s.now) × ((length s.now ≤ most_run_input) × (41 ≤ length head.old)))) }
+    requires { (a ≤ b) × ((b ≤ c) × ((c ≤ length s.now) × (length s.now ≤ most_run_input))) }
     ensures { Shows result head.new events.new left.new
         (output_of (length events.old) (length left.old) s.now a b c) }
 {
@@ -115,8 +113,8 @@ fn run_from(
 }
 
 // Of an input that is not too long.
-fn run_input(s: &[u8], head: &mut [u8], events: &mut [u8], left: &mut [u8]) -> Parts
-    requires { (length s.now ≤ most_run_input) × (41 ≤ length head.old) }
+fn run_input(s: &[u8], head: &mut [u8; HEAD], events: &mut [u8], left: &mut [u8]) -> Parts
+    requires { length s.now ≤ most_run_input }
     ensures { Shows result head.new events.new left.new
         (output_with (length events.old) (length left.old) s.now) }
 {

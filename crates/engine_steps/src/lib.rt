@@ -40,6 +40,10 @@ pub fn steps(g: &Ground, cells: &mut Cells, out: &mut [u8], mut t: Turn) -> Turn
     requires fit { t.spot.stop ≢ Over.Unfit }
     ensures { Came g.now cells.old cells.new out.old out.new t result }
 {
+    // A copy of its own, whose fields need not be read again after each write to the cells.
+    let own = *g;
+    let g = &own;
+    // The run itself says when it is over, so nothing is counted up to.
     while t.spot.left > 0 && t.more > 0 {
         let code = read_fields::byte_or(g.s, t.spot.at + g.w);
         if waits(code, t) {

@@ -25,7 +25,7 @@ pub fn figures_noting<const N: usize>(src: &Source, each: &mut [u16]) -> Totals
     rewrite::measure(&mut st, src, &mut names, each)
 }
 
-// The same, with a table that is long enough: few blocks have few saves.
+// The same, with a table that is long enough: few blocks have few saves. rewrite has the same choice, since a const argument is not computed.
 pub fn figures_typed(src: &Source, each: &mut [u16]) -> Totals
     requires { Typed src.now × (num_at src.now.reads.now src.now.layout.end 2 ≤ length each.old) }
     ensures { FiguredAs src.now.reads.now each.old (Ok result) each.new }

@@ -261,6 +261,7 @@ pub fn emit(st: &mut LvnState, n: u16, i: &Instruction, v: Value) -> Emitted
 pub fn type_of(types: &[u8], x: NameIx) -> u8
     ensures { result ≡ type_in types.now x }
 {
+    // `get`, `copied` and `unwrap_or` were tried, and a goal stays open.
     let i = x.0 as usize;
     if i < types.len() { types[i] } else { 0 }
 }

@@ -195,6 +195,7 @@ impl LvnState {
         ensures { result ≡ itself (state_of self.now).locs dest (expr_of v) }
     {
         match v {
+            // One pattern for `id` was tried in get_val_num, and its proof does not close.
             Value::One(o, a) => match o {
                 One::Id => self.home(a).0 == dest.0,
                 One::Not => false,

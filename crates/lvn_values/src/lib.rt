@@ -197,6 +197,7 @@ impl Values {
     {
         match v {
             Value::Unique => None,
+            // One pattern for `id` was tried, and its proof does not close.
             Value::One(o, a) => match o {
                 One::Id => Some(a),
                 One::Not => self.look_up(Entry::of(v)),

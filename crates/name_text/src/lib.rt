@@ -10,7 +10,7 @@ use numbering::NameError;
 use read_fields::Next;
 use record::Refusal;
 
-// A part of the input or of the rewriting.
+// A part of the input or of the rewriting, told by a bool as in the definition's part.
 #[derive(Clone, Copy)]
 pub struct Place {
     pub rewriting: bool,

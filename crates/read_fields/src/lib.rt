@@ -110,7 +110,7 @@ pub fn be<const N: usize>(s: &[u8], at: usize) -> u64
 }
 
 // ---- places
-// The place behind n bytes that are there or not.
+// The place behind n bytes that are there or not, as a shape says by a bool.
 pub fn past_if(there: bool, at: usize, n: usize) -> usize
     requires { at + n < places }
     ensures { (result ≡ cond there (at + n) at) × (result ≤ at + n) }

@@ -33,7 +33,7 @@ pub fn read_id(s: &[u8], at: usize, w: usize) -> u64
     read_fields::be::<4>(s, at)
 }
 
-// A number of two bytes, where it is there; else 0.
+// A number of two bytes, where it is there; else 0 and no None, which is what the definition's instruction has there.
 fn two_if(there: bool, s: &[u8], at: usize) -> u16
     requires { at + 1 < places }
     ensures { result ≡ cond there (num_at s.now at 2) 0 }
@@ -44,7 +44,7 @@ fn two_if(there: bool, s: &[u8], at: usize) -> u16
     0
 }
 
-// A literal, where it is there; else the int 0.
+// A literal, where it is there; else the int 0, which is what the definition's instruction has there.
 fn read_literal(there: bool, s: &[u8], at: usize) -> Literal
     requires { (at + 8 < places) × LitOk (cond there (lit_from s.now at) no_lit) }
     ensures { literal_of result ≡ cond there (lit_from s.now at) no_lit }

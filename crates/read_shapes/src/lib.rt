@@ -13,7 +13,8 @@ use read_fields::{Num, Test};
 use record::{Refusal, Shape};
 
 // ---- the kinds of shape
-// That of an unknown code, of which nothing follows: what each other shape differs from.
+// That of an unknown code, of which nothing follows: what each other shape differs from. It is a shape and no None, since the definitions
+// take the shape of any code, and behind check an Option would be opened everywhere.
 fn unknown() -> Shape
     ensures { result ≡ unknown }
 {

@@ -41,6 +41,7 @@ impl<'a> Cursor<'a> {
     pub fn number(&mut self) -> u64 {
         self.skip(b' ');
         let mut value = 0u64;
+        // Where the digits end is seen as they are read: a `for` would need another cursor.
         while let Some((c, rest)) = self.rest.split_first() {
             if !c.is_ascii_digit() {
                 break;
@@ -113,6 +114,7 @@ pub fn replay<F: Fn(&mut Cursor<'_>) -> bool>(text: &[u8], agrees: F) -> Counts
     let mut list = Cursor { rest: text };
     let mut same = 0;
     let mut other = 0;
+    // A `for` over the text's lines was tried, and does not check where each is lent to `agrees`.
     while let Some(mut line) = list.line() {
         if agrees(&mut line) && matches!(line.rest, [] | [b'\n']) {
             same += 1;

@@ -164,7 +164,7 @@ pub fn rewrite_noting<const N: usize>(src: &Source, out: &mut [u8]) -> Result<To
     rewrite_measured(&mut st, src, &mut names, out)
 }
 
-// The same, with a table that is long enough: few blocks have few saves.
+// The same, with a table that is long enough: few blocks have few saves. figures has the same choice, since a const argument is not computed.
 pub fn rewrite_typed(src: &Source, out: &mut [u8]) -> Result<Totals, RewriteError>
     requires { Typed src.now }
     ensures { Answered src.now.reads.now out.old result out.new }

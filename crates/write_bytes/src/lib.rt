@@ -79,6 +79,7 @@ pub fn count_digits(k: u64) -> usize
 {
     let mut n = 0;
     let mut left = k;
+    // The number itself says when its digits are counted, so nothing is counted up to.
     while left >= 10000 {
         left /= 10000;
         n += 4;

@@ -14,4 +14,4 @@ slice_bounds-run-end c = sym (length-take-le _ _ (omega arith))
 pub returns : goal.returns
 returns c = let a = c.args in
     run_shown a.s.now a.a a.b a.c _ a.events.now a.left.now c.run-ran.result _ c.if-s-c-ne8.false c.be-limit.ensures.0
-    c.run-ran.ensures c.put_answer-n.ensures (omega (arith, c.put_answer-n.auto.out, c.requires.1.1.1.1)) c.parts_of.ensures
+    c.run-ran.ensures c.put_answer-n.ensures (omega (arith, c.put_answer-n.ensures.0, c.put_answer-n.auto.out)) c.parts_of.ensures
