@@ -109,12 +109,12 @@ impl<'a> Operands<'a> {
     }
 
     // Whether each of the n names whose indexes stand from there on is of type t.
-    fn each_is(&self, at: usize, n: u8, t: u8) -> bool
+    fn each_is(&self, at: usize, n: u8, t: u64) -> bool
         requires { at + 2 * n ≤ places }
         ensures { result ≡ each_is t (map (type_in self.now.types.now) (items (index_from self.now.bytes.now) two_on at n)) }
     {
         for k in 0..n as usize {
-            if self.index_type(at + 2 * k) != t {
+            if u64::from(self.index_type(at + 2 * k)) != t {
                 return false;
             }
         }
@@ -175,7 +175,7 @@ impl<'a> Operands<'a> {
         ensures { Kept result joins true false self.now }
     {
         let n = self.byte(self.at + 2);
-        self.each_is(self.at + 2 + 1, n, self.index_type(self.at))
+        self.each_is(self.at + 2 + 1, n, u64::from(self.index_type(self.at)))
     }
 
     // A pointer and what it points to; no dest stands before the arguments.
@@ -203,13 +203,13 @@ impl<'a> Operands<'a> {
     }
 
     // n arguments of type a, a dest of type d.
-    pub fn takes(&self, n: u8, a: u8, d: u8) -> bool
+    pub fn takes(&self, n: u8, a: u64, d: u64) -> bool
         requires { (self.now.at + 6 < places) × (self.now.at + 2 * n + 3 ≤ places) }
         ensures { Kept result (takes (replicate n a) d) true false self.now }
     {
         let count = self.byte(self.at + 2);
         let args = self.each_is(self.at + 2 + 1, n, a);
-        let t = self.index_type(self.at);
+        let t = u64::from(self.index_type(self.at));
         (count == n) & (args & (t == d))
     }
 }
@@ -236,6 +236,6 @@ pub fn typed_at(s: &[u8], types: &[u8], w: usize, at: usize) -> bool
         Rule::Stores => operands.stores(),
         Rule::Frees => operands.frees(),
         Rule::Branches => operands.branches(),
-        Rule::Takes(n, a, d) => operands.takes(n, a, d),
+        Rule::Takes(n, a, d) => operands.takes(n, u64::from(a), u64::from(d)),
     }
 }

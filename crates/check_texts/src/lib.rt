@@ -10,21 +10,21 @@ use read_fields::byte_or;
 
 // ---- one byte
 // 0 to 9.
-pub fn digit(b: u8) -> bool
+pub fn digit(b: u64) -> bool
     ensures { result ≡ digit b }
 {
-    b.is_ascii_digit()
+    0x30 <= b && b <= 0x39
 }
 
 // Letters, `_` and `.`.
-pub fn letter(b: u8) -> bool
+pub fn letter(b: u64) -> bool
     ensures { result ≡ letter b }
 {
-    b.is_ascii_alphabetic() || b == b'_' || b == b'.'
+    (0x41 <= b && b <= 0x5A) || (0x61 <= b && b <= 0x7A) || b == 0x5F || b == 0x2E
 }
 
 // A byte that may stand in a text behind its first.
-pub fn text_byte(b: u8) -> bool
+pub fn text_byte(b: u64) -> bool
     ensures { result ≡ (letter b || digit b) }
 {
     letter(b) || digit(b)
@@ -35,7 +35,7 @@ pub fn text_byte(b: u8) -> bool
 pub fn all_text(text: &[u8]) -> bool
     ensures { result ≡ all_text text.now }
 {
-    text.iter().all(|b| text_byte(*b))
+    text.iter().all(|b| text_byte(u64::from(*b)))
 }
 
 // Letters, digits, `_` and `.`, no digit first.
@@ -44,7 +44,7 @@ pub fn well_formed(text: &[u8]) -> bool
     ensures { result ≡ well_formed text.now }
 {
     match text {
-        [first, rest @ ..] => letter(*first) && all_text(rest),
+        [first, rest @ ..] => letter(u64::from(*first)) && all_text(rest),
         [] => false,
     }
 }
@@ -53,7 +53,7 @@ pub fn well_formed(text: &[u8]) -> bool
 pub fn undigited(text: &[u8]) -> usize
     ensures { result ≡ undigited text.now (length text.now) }
 {
-    match text.iter().rposition(|b| !digit(*b)) {
+    match text.iter().rposition(|b| !digit(u64::from(*b))) {
         Some(last) => last + 1,
         None => 0,
     }

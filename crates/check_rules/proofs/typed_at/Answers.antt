@@ -35,4 +35,5 @@ pub returns-in-Branches : goal.returns-in-Branches
 returns-in-Branches c = typed_kept c.args.s c.args.types _ _ _ _ c.byte_or.ensures.0 _ _ c.rule_of.ensures c.in-Branches.is false false refl c.branches.ensures
 
 pub returns-in-Takes : goal.returns-in-Takes
-returns-in-Takes c = typed_kept c.args.s c.args.types _ _ _ _ c.byte_or.ensures.0 _ _ c.rule_of.ensures c.in-Takes.is true false refl c.takes.ensures
+returns-in-Takes c = typed_kept c.args.s c.args.types _ _ _ _ c.byte_or.ensures.0 _ _ c.rule_of.ensures c.in-Takes.is true false refl
+    (rw (← c.from.ensures, ← c.from-in-Takes.ensures) c.takes.ensures)
