@@ -40,7 +40,7 @@ pub fn left(s: &[u8], at: usize) -> usize
 }
 
 // ---- the record reader
-// A lent record and the place at which it is read. Every field is read through it.
+// A lent record and the place at which it is read. Every field whose number is looked at is read through it.
 #[derive(Drop)]
 pub struct Reader<'a> {
     pub src: &'a [u8],

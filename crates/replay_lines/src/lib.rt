@@ -17,7 +17,7 @@ pub struct Cursor<'a> {
 }
 
 impl<'a> Cursor<'a> {
-    // Reads a line, with the byte that ends it.
+    // Reads a line, with the byte that ends it, which the last may lack.
     fn line(&mut self) -> Option<Cursor<'a>>
         ensures { IfSome result (λ line. 0 < length line.rest.now × (length line.rest.now + length self.new.rest.now ≡ length self.old.rest.now)) }
     {
