@@ -2,9 +2,10 @@
 #![tactic(auto)]
 
 ghost use Rattle.std.specs.Prelude.{◌≡◌, true, false, ℕ, eqb, Ok, []};
+ghost use Rattle.record.specs.Record.{nm, no_lit};
 ghost use Rattle.record.specs.Reader.{field, times, if_there};
-ghost use Rattle.record.specs.Tests.{saves_test};
-ghost use Rattle.record.specs.Read.{literal, arguments, operands, instr, block};
+ghost use Rattle.record.specs.Tests.{any, saves_test};
+ghost use Rattle.record.specs.Read.{name_index, literal, arguments, operands, instr, block};
 ghost use Rattle.record.specs.Answer.{verdict};
 ghost use Rattle.read_fields.specs.Answer.{res};
 
@@ -12,7 +13,7 @@ use read_fields::{Next, Num, Test, limited};
 use record::{Limits, Refusal, Shape};
 
 // What a record has: the bytes of an id, how many names and how many blocks.
-#[derive(Clone, Copy)]
+#[derive(Clone, Copy, PartialEq, Eq, Debug)]
 pub struct Counts {
     pub width: usize,
     pub names: u64,
@@ -37,7 +38,7 @@ pub fn check_arguments(s: &[u8], at: usize, sh: Shape, n: u64) -> Next
 }
 
 // Arguments, where the shape has them. Not by `if_there`: a closure that takes a shape along costs a copy of it at each instruction, by which
-// reading is a third slower.
+// reading is a third slower, and check is to stay as quick as it was (docs/DECISIONS.md, 40: C1 is short of the aim as it is).
 pub fn arguments_if(there: bool, s: &[u8], at: usize, sh: Shape, n: u64) -> Next
     ensures { result ≡ verdict (if_there there [] (arguments n sh) s.now at) }
 {
@@ -48,7 +49,7 @@ pub fn arguments_if(there: bool, s: &[u8], at: usize, sh: Shape, n: u64) -> Next
     }
 }
 
-// A part, where the shape has it.
+// A part, where the shape has it: `there` is a field of the shape, which says yes or no.
 pub fn if_there<F: FnOnce(usize) -> Next>(there: bool, at: usize, part: F) -> Next
     requires { F.IsAlwaysCallable part }
     ensures yes { there ≡ true → F.post part at result }
@@ -57,17 +58,40 @@ pub fn if_there<F: FnOnce(usize) -> Next>(there: bool, at: usize, part: F) -> Ne
     if there { part(at) } else { Ok(at) }
 }
 
+// Each of the three says by the definition's `if_there` what it answers; `if_there` above is over any closure, and says what that ensures.
+// A dest, where the shape has one.
+pub fn dest_if(there: bool, s: &[u8], at: usize, n: u64) -> Next
+    ensures { result ≡ verdict (if_there there (nm 0) (name_index n) s.now at) }
+{
+    if_there(there, at, move |p| read_fields::index_at(s, p, n))
+}
+
+// A literal, where the shape has one.
+pub fn literal_if(there: bool, s: &[u8], at: usize) -> Next
+    ensures { result ≡ verdict (if_there there no_lit literal s.now at) }
+{
+    if_there(there, at, |p| check_literal(s, p))
+}
+
+// A callee, where the shape has one: any number.
+pub fn callee_if(there: bool, s: &[u8], at: usize) -> Next
+    ensures { result ≡ verdict (if_there there 0 (field 2 any) s.now at) }
+{
+    if_there(there, at, |p| read_fields::skip_at(s, p, 2))
+}
+
 // ---- instructions
+// s and at come first in each function, as in those of read_fields; a struct of s and of would serve five, and be taken apart by the others.
 // What stands behind the code of an instruction of this shape.
 // The verdict does not depend on the id and the code that the instruction is given.
 pub fn check_operands(s: &[u8], at: usize, sh: Shape, of: Counts) -> Next
     ensures { (id code : ℕ) → result ≡ verdict (operands of.names of.blocks sh id code s.now at) }
 {
-    let literal = if_there(sh.dest, at, move |p| read_fields::index_at(s, p, of.names))?;
-    let args = if_there(sh.literal, literal, |p| check_literal(s, p))?;
+    let literal = dest_if(sh.dest, s, at, of.names)?;
+    let args = literal_if(sh.literal, s, literal)?;
     let count = read_shapes::count_from(sh, s, args);
     let callee = arguments_if(!sh.literal, s, args, sh, of.names)?;
-    let blocks = if_there(sh.callee, callee, |p| read_fields::skip_at(s, p, 2))?;
+    let blocks = callee_if(sh.callee, s, callee)?;
     read_fields::indexes_at(s, blocks, read_shapes::targets(sh, count), of.blocks)
 }
 
@@ -85,8 +109,7 @@ pub fn check_instrs(s: &[u8], at: usize, count: u64, of: Counts) -> Next
     ensures { result ≡ verdict (times count (λ left. instr of.width of.names of.blocks (eqb left 0)) s.now at) }
 {
     let mut p = at;
-    for i in 0..count {
-        let left = count - i - 1;
+    for left in (0..count).rev() {
         p = check_instr(s, p, of, left == 0)?;
     }
     Ok(p)
@@ -98,15 +121,14 @@ pub fn check_instrs(s: &[u8], at: usize, count: u64, of: Counts) -> Next
 pub fn saves_test(made: bool, n: u64) -> Test
     ensures { result ≡ saves_test made n }
 {
-    read_fields::need(made | (n == 0), Refusal::Limit)
+    read_fields::need(made || n == 0, Refusal::Limit)
 }
 
 // A block's saves.
 pub fn saves_at(s: &[u8], at: usize, made: bool) -> Num
     ensures { res result ≡ field 2 (saves_test made) s.now at }
 {
-    let (x, p) = read_fields::field_at::<2>(s, at)?;
-    read_fields::judged(saves_test(made, x), x, p, at)
+    read_fields::field_tested::<2, _>(s, at, |n| saves_test(made, n))
 }
 
 // A block: how many instructions, saves, the instructions.

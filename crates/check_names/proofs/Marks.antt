@@ -5,6 +5,7 @@ use mathlib.Core.List.{List, [], ◌∷◌, ◌++◌}
 use mathlib.Core.Bool.{Bool, true, false, true≢false, cond, ◌||◌}
 use native.Mathlib.Omega.{arith}
 use native.Mathlib.Numerals.{add-one}
+use mir.Val.{bool_byte}
 use lib.ListN.{length, get_or, set, take, drop, drop_of_length-le}
 use lib.Seq.{drop-cons, get_or-set_same, get_or-set_other}
 use lib.Dec.{ltb, eqb}
@@ -73,6 +74,11 @@ module _ (m : List Bool) (h : ℕ) (f : h < length m) where
   pub marked_more :
       (us ts : List (List ℕ)) (u : List ℕ) → ts ≡ us ++ (u ∷ []) → h ≡ mark 0 u → Marked m us → Marked (set m h true) ts
   marked_more us ts u e eh g = subst (Marked (set m h true)) (sym e) (one_more us u eh g)
+
+-- how many names are searched; m: 1 where the mark is set
+pub search_count : (b : Bool) (m k j : ℕ) → m ≡ bool_byte b → j ≡ cond (eqb m 0) 0 k → j ≡ cond b k 0
+search_count true m k j e f = f ∙ ap (λ (i : ℕ). cond (eqb i 0) 0 k) e
+search_count false m k j e f = f ∙ ap (λ (i : ℕ). cond (eqb i 0) 0 k) e
 
 -- ---- a name whose text is none of those seen is read as if none were seen
 module _ (made : Bool) (seen : List (List ℕ)) (s : List ℕ) (t n : ℕ) where

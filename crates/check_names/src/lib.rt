@@ -2,7 +2,7 @@
 // has seen.
 #![tactic(auto)]
 
-ghost use Rattle.std.specs.Prelude.{◌≡◌, cond, not, ◌||◌, [], ◌<◌, ◌≤◌, length};
+ghost use Rattle.std.specs.Prelude.{◌≡◌, cond, not, ◌||◌, [], ◌<◌, ◌≤◌, length, eqb};
 ghost use Rattle.record.specs.Reader.{field, text};
 ghost use Rattle.record.specs.Text.{reserved};
 ghost use Rattle.record.specs.Tests.{type_test, text_length_test, text_test};
@@ -14,7 +14,7 @@ ghost use Rattle.read_layout.specs.Layout.{texts_from};
 ghost use Rattle.check_names.specs.Marks.{mark};
 
 use check_texts::Before;
-use read_fields::{Next, Num, Test, byte_or, fault, field_at, judged};
+use read_fields::{Next, Num, Test, byte_or, fault, field_tested};
 use record::{Limits, Refusal};
 
 // ---- a name's type and its text's length
@@ -38,16 +38,14 @@ pub fn text_length_test(most: u64, n: u64) -> Test
 pub fn type_field(s: &[u8], at: usize) -> Num
     ensures { res result ≡ field 1 type_test s.now at }
 {
-    let (x, p) = field_at::<1>(s, at)?;
-    judged(type_test(x), x, p, at)
+    field_tested::<1, _>(s, at, |x| type_test(x))
 }
 
 // The field of a text's length, which is at most `most`.
 pub fn text_length_at(s: &[u8], at: usize, most: u64) -> Num
     ensures { res result ≡ field 1 (text_length_test most) s.now at }
 {
-    let (x, p) = field_at::<1>(s, at)?;
-    judged(text_length_test(most, x), x, p, at)
+    field_tested::<1, _>(s, at, |x| text_length_test(most, x))
 }
 
 // ---- a name's text
@@ -78,34 +76,34 @@ pub fn text_at(lim: Limits, s: &[u8], before: Before, t: usize, n: usize) -> Nex
     if read_fields::left(s, t) < n {
         return Err(fault(Refusal::Length, t));
     }
-    match text_test(lim, s, before, &s[t..t + n]) {
-        Ok(()) => Ok(t + n),
-        Err(k) => Err(fault(k, t)),
-    }
+    text_test(lim, s, before, &s[t..t + n]).map_err(|k| fault(k, t))?;
+    Ok(t + n)
 }
 
-// ---- marks, by which a text is known to be new without a search
+// ---- marks, by which a text is known to be new without a search. A set of texts would need a heap, and the project has none
 // How many marks there are.
 const MARKS: usize = 2048;
 
-// The mark of a text.
+// The mark of a text. By a loop, whose invariant says that the mark is small: the closure of a fold would have to say it in a contract.
 pub fn mark_of(text: &[u8]) -> usize
     ensures { (result ≡ mark 0 text.now) × (result < 2048) }
 {
     let mut h = 0;
     for b in text {
-        h = (h * 37 + *b as usize) % MARKS;
+        h = (h * 37 + usize::from(*b)) % MARKS;
     }
     h
 }
 
-// The mark of the text of the name at p; any mark where the bytes end before the text does.
+// The mark of the text of the name at p; any mark where the bytes end before the text does, since that name is refused with whatever mark: 0 and
+// no None, which would only be opened for it.
 pub fn mark_at(s: &[u8], p: usize) -> usize
     ensures { (result < 2048) × (name_end s.now p ≤ length s.now → result ≡ mark 0 (name_from s.now p).text) }
 {
     if read_fields::left(s, p) < 2 {
         return 0;
     }
+    // as: a number that is known to fit, or u64 and usize, which have no From; try_from would hand out an error that cannot be.
     let n = byte_or(s, p + 1) as usize;
     let t = p + 1 + 1;
     if read_fields::left(s, t) < n {
@@ -114,11 +112,11 @@ pub fn mark_at(s: &[u8], p: usize) -> usize
     mark_of(&s[t..t + n])
 }
 
-// How many of the k names before a text are searched for it: none where its mark is not set.
-pub fn to_search(marked: bool, k: u64) -> u64
-    ensures { result ≡ cond marked k 0 }
+// How many of the k names before a text are searched for it: 0 where its mark m is not set, as a search of no name goes.
+pub fn to_search(m: u8, k: u64) -> u64
+    ensures { result ≡ cond (eqb m 0) 0 k }
 {
-    if marked { k } else { 0 }
+    if m == 0 { 0 } else { k }
 }
 
 // ---- names
@@ -142,7 +140,7 @@ pub fn names_at(lim: Limits, s: &[u8], at: usize, count: u64) -> Next
         let h = mark_at(s, p);
         let before = Before {
             from: at,
-            count: to_search(seen[h], i),
+            count: to_search(u8::from(seen[h]), i),
         };
         seen[h] = true;
         p = name_at(lim, s, before, p)?;

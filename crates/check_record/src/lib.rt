@@ -10,7 +10,7 @@ ghost use Rattle.read_fields.specs.Answer.{res};
 ghost use Rattle.check_record.specs.Parts.{names_and_blocks};
 
 use check_blocks::Counts;
-use read_fields::{Next, Num, Test, fault, field_at, judged, limited};
+use read_fields::{Next, Num, Test, fault, field_tested, limited};
 use record::{Limits, Refusal};
 
 // ---- tests
@@ -31,6 +31,7 @@ pub fn version_test(v: u64) -> Test
 }
 
 // At most so many names, and not fewer than arguments.
+#[tactic(auto, unfolding(record::specs::Tests::names_test))]
 pub fn names_test(most: u64, args: u64, n: u64) -> Test
     ensures { result ≡ names_test most args n }
 {
@@ -39,27 +40,27 @@ pub fn names_test(most: u64, args: u64, n: u64) -> Test
 
 // ---- fields
 // L, which counts all that follows it.
+#[tactic(auto, unfolding(record::specs::Read::length_field))]
 pub fn length_at(s: &[u8], at: usize) -> Num
     ensures { res result ≡ length_field s.now at }
 {
-    let (x, p) = field_at::<4>(s, at)?;
-    judged(length_test(read_fields::left(s, 4) as u64, x), x, p, at)
+    // as: u64 and usize have no From; try_from would hand out an error that cannot be.
+    let rest = read_fields::left(s, 4) as u64;
+    field_tested::<4, _>(s, at, |l| length_test(rest, l))
 }
 
 // The version.
 pub fn version_at(s: &[u8], at: usize) -> Num
     ensures { res result ≡ field 1 version_test s.now at }
 {
-    let (x, p) = field_at::<1>(s, at)?;
-    judged(version_test(x), x, p, at)
+    field_tested::<1, _>(s, at, |v| version_test(v))
 }
 
 // N, where A is args.
 pub fn name_count_at(s: &[u8], at: usize, most: u64, args: u64) -> Num
     ensures { res result ≡ field 2 (names_test most args) s.now at }
 {
-    let (x, p) = field_at::<2>(s, at)?;
-    judged(names_test(most, args, x), x, p, at)
+    field_tested::<2, _>(s, at, |n| names_test(most, args, n))
 }
 
 // The end: no byte is left over.

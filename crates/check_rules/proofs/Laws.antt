@@ -1,5 +1,5 @@
 -- What the operands of an instruction are by their place, what each rule asks of them, and that each code's rule fits its shape.
-use Prim.Native.Nat.{ℕ, zero, suc, ◌+◌, ◌-◌, ◌*◌, ◌<◌, ◌≤◌}
+use Prim.Native.Nat.{ℕ, zero, suc, ◌+◌, ◌*◌, ◌<◌, ◌≤◌}
 use mathlib.Core.Path.{◌≡◌, refl, sym, ap, ◌∙◌, subst}
 use mathlib.Core.Logic.{◌≢◌}
 use mathlib.Core.List.{List, ◌∷◌, map}
@@ -10,8 +10,8 @@ use native.Mathlib.Decide.{dec_lt}
 use lib.ListN.{get_or, drop, replicate}
 use denote.Ref.{Bor}
 use lib.Dec.{eqb, eqb-suc-zero, eqb-zero-suc, eqb-suc-suc}
-use borrow.Author.Tests.{ne_eqb, eq-eqb}
 use Rattle.arith.specs.Value.{tint, tbool, is_pointer}
+use Rattle.std.specs.List.{list_all, range_with_len}
 use Rattle.record.specs.declared.NameIx.{NameIx}
 use Rattle.record.specs.declared.Shape.{Shape}
 use Rattle.record.specs.Record.{nm, type_in}
@@ -24,9 +24,8 @@ use Rattle.record.specs.Decode.{items, behind, two_on, index_from, operands_from
 use Rattle.record.proofs.Tests.{and_left, and_right}
 use Rattle.record.proofs.Decode.{item_at, item_past, behind_two}
 use Rattle.record.proofs.Form.{row_beyond, all_below_at}
-use Rattle.record.proofs.Rows.{one_more}
 use Rattle.record.proofs.Following.{ends_below, row_found}
-use Rattle.check_rules.specs.declared.Operands.{Operands}
+use Rattle.check_rules.specs.declared.operands.Operands.{Operands}
 use Rattle.check_rules.specs.declared.Rule.{Rule}
 use Rattle.check_rules.specs.Rules.{rule, code_rule, args_from, Kept}
 
@@ -106,21 +105,16 @@ module _ (f : NameIx → ℕ) (one : ℕ → NameIx) (next : ℕ → ℕ) (t : �
       swapped true b d = refl
       swapped false b d = sym (and-false b)
 
-  -- the first of those left, where some are left; x: its type
-  module _ (p left x : ℕ) (e : x ≡ f (one p)) (h : 0 < left) where
-    first_is : each_is t (map f (items one next p left)) ≡ (eqb x t && each_is t (map f (items one next (next p) (left - 1))))
-    unfolding items each_is
-    first_is = rw e (ap (λ (n : ℕ). each_is t (map f (items one next p n))) (one_more left h))
-
-    pub each_other : x ≢ t → false ≡ each_is t (map f (items one next p left))
-    each_other g = rw (first_is, ne_eqb x t g)
-
-    pub each_went : x ≡ t → each_is t (map f (items one next (next p) (left - 1))) ≡ each_is t (map f (items one next p left))
-    each_went g = rw (first_is, eq-eqb x t g)
-
-  pub each_done : (p left : ℕ) → left ≡ 0 → true ≡ each_is t (map f (items one next p left))
-  unfolding items each_is
-  each_done p left z = sym (ap (λ (n : ℕ). each_is t (map f (items one next p n))) z)
+-- n of them, one every two places, by their numbers from a on
+pub each_all :
+    (f : NameIx → ℕ) (one : ℕ → NameIx) (t at a n : ℕ) →
+    list_all (λ k. eqb (f (one (at + 2 * k))) t) (range_with_len a n) ≡ each_is t (map f (items one two_on (at + 2 * a) n))
+unfolding items each_is
+each_all f one t at a zero = refl
+each_all f one t at a (suc n) =
+    let place : at + 2 * (a + 1) ≡ at + 2 * a + 2 = omega arith in
+    ap (λ (b : Bool). eqb (f (one (at + 2 * a))) t && b)
+    (each_all f one t at (a + 1) n ∙ ap (λ p. each_is t (map f (items one two_on p n))) place)
 
 -- ---- the rules; t: the type of dest, x and y: those of the arguments
 module _ (o : Operands) (t x y : ℕ) (r : Bool) where
@@ -244,7 +238,9 @@ module _
       ∙ ap (λ (n : ℕ). obeys (code_rule n) (type_in types.now) (operands_from (shape_of n) s.now (at + w + 1) (num_at s.now at w) n)) ec
 
   pub typed_kept :
-      (dest literal : Bool) → parts (rule U) ≡ some (dest, literal) → Kept r (rule U) dest literal (record { bytes = s; types = types; at = at + w + 1 }) →
+      (dest literal : Bool) → parts (rule U) ≡ some (dest, literal) →
+      ((sh : Shape) (id code : ℕ) → sh.dest ≡ dest → sh.literal ≡ literal →
+      r ≡ obeys (rule U) (type_in types.now) (operands_from sh s.now (at + w + 1) id code)) →
       r ≡ well_typed (type_in types.now) (instr_from w s.now at)
   typed_kept dest literal p k =
       let told : (agrees dest (shape_of c).dest && agrees literal (shape_of c).literal) ≡ true =

@@ -8,7 +8,7 @@ use Rattle.record.specs.Reader.{num_at}
 use Rattle.record.specs.Typing.{free, fits_dest, copies, shifts, allocates, loads, joins, stores, frees, branches, takes, obeys}
 use Rattle.record.specs.Typing as typing
 use Rattle.record.specs.Decode.{items, two_on, index_from, operands_from}
-use Rattle.check_rules.specs.declared.Operands.{Operands}
+use Rattle.check_rules.specs.declared.operands.Operands.{Operands}
 use Rattle.check_rules.specs.declared.Rule.{Rule}
 use Rattle.check_rules.specs.declared.Rule.TheVariants.{Free, FitsDest, Copies, Shifts, Allocates, Loads, Joins, Stores, Frees, Branches, Takes}
 

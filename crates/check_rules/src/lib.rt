@@ -9,8 +9,14 @@ ghost use Rattle.record.specs.Decode.{items, two_on, index_from, instr_from};
 ghost use Rattle.read_fields.specs.Places.{places};
 ghost use Rattle.check_rules.specs.Rules.{rule, code_rule, args_from, joins_reach, Kept};
 
+use record::{BOOL, CHAR, FLOAT, INT, POINTER};
+
+mod operands;
+
+pub use operands::Operands;
+
 // What a code asks of the types of its dest and its arguments. Takes(n, a, d): n arguments of type a, a dest of type d.
-#[derive(Clone, Copy)]
+#[derive(Clone, Copy, PartialEq, Eq, Debug)]
 pub enum Rule {
     Free,
     FitsDest,
@@ -25,18 +31,8 @@ pub enum Rule {
     Takes(u8, u8, u8),
 }
 
-// The types without a pointer, and the least of a pointer.
-const INT: u8 = 0x00;
-
-const BOOL: u8 = 0x01;
-
-const FLOAT: u8 = record::FLOAT;
-
-const CHAR: u8 = 0x03;
-
-const POINTER: u8 = 0x10;
-
-// The rule of a code.
+// The rule of a code, by its number as the record has it, as read_shapes::shape_of: an Op would be made of it first, at each instruction, and has
+// no names for the codes 20 to 39.
 pub fn rule_of(code: u64) -> Rule
     ensures { rule result ≡ code_rule code }
 {
@@ -70,21 +66,13 @@ fn points_to(p: u8, t: u8) -> bool
     p.checked_sub(POINTER) == Some(t)
 }
 
-// The operands of an instruction: the bytes that they stand in, their place, and the type byte of each name.
-// A dest and a count with two arguments have seven bytes.
-#[derive(Clone, Copy)]
-pub struct Operands<'a> {
-    pub bytes: &'a [u8],
-    pub types: &'a [u8],
-    pub at: usize,
-}
-
 impl<'a> Operands<'a> {
     // ---- what stands at a place
     // A byte: a count, or the kind of a literal.
     fn byte(&self, at: usize) -> u8
         ensures { result ≡ get_or self.now.bytes.now at 0 }
     {
+        // as: a number that is known to fit, or u64 and usize, which have no From; try_from would hand out an error that cannot be.
         read_fields::byte_or(self.bytes, at) as u8
     }
 
@@ -102,7 +90,7 @@ impl<'a> Operands<'a> {
         requires { at + 2 * k + 2 < places }
         ensures { result ≡ type_in self.now.types.now (get_or (args_from self.now.bytes.now at) k (nm 0)) }
     {
-        if k < self.byte(at) as usize {
+        if k < usize::from(self.byte(at)) {
             return self.index_type(at + 1 + 2 * k);
         }
         read_fields::byte_or(self.types, 0) as u8
@@ -113,18 +101,13 @@ impl<'a> Operands<'a> {
         requires { at + 2 * n ≤ places }
         ensures { result ≡ each_is t (map (type_in self.now.types.now) (items (index_from self.now.bytes.now) two_on at n)) }
     {
-        for k in 0..n as usize {
-            if u64::from(self.index_type(at + 2 * k)) != t {
-                return false;
-            }
-        }
-        true
+        (0..usize::from(n)).all(|k| u64::from(self.index_type(at + 2 * k)) == t)
     }
 
-    // ---- the rules
+    // ---- the rules, by & and |: what stands on both sides is at hand, and each rule is one step of its proof. With && and || each was two or
+    // three, which the check did not find by itself
     // A literal fits its own type, an int literal also float.
     pub fn fits_dest(&self) -> bool
-        requires { self.now.at + 6 < places }
         ensures { Kept result fits_dest true true self.now }
     {
         let kind = self.byte(self.at + 2);
@@ -134,7 +117,6 @@ impl<'a> Operands<'a> {
 
     // Dest and argument have one type.
     pub fn copies(&self) -> bool
-        requires { self.now.at + 6 < places }
         ensures { Kept result copies true false self.now }
     {
         self.index_type(self.at) == self.arg_type(self.at + 2, 0)
@@ -142,7 +124,6 @@ impl<'a> Operands<'a> {
 
     // A pointer and an int give a pointer of the same type.
     pub fn shifts(&self) -> bool
-        requires { self.now.at + 6 < places }
         ensures { Kept result shifts true false self.now }
     {
         let p = self.arg_type(self.at + 2, 0);
@@ -153,7 +134,6 @@ impl<'a> Operands<'a> {
 
     // An int gives a pointer.
     pub fn allocates(&self) -> bool
-        requires { self.now.at + 6 < places }
         ensures { Kept result allocates true false self.now }
     {
         let n = self.arg_type(self.at + 2, 0);
@@ -163,7 +143,6 @@ impl<'a> Operands<'a> {
 
     // A pointer gives what it points to.
     pub fn loads(&self) -> bool
-        requires { self.now.at + 6 < places }
         ensures { Kept result loads true false self.now }
     {
         points_to(self.arg_type(self.at + 2, 0), self.index_type(self.at))
@@ -180,7 +159,6 @@ impl<'a> Operands<'a> {
 
     // A pointer and what it points to; no dest stands before the arguments.
     pub fn stores(&self) -> bool
-        requires { self.now.at + 6 < places }
         ensures { Kept result stores false false self.now }
     {
         points_to(self.arg_type(self.at, 0), self.arg_type(self.at, 1))
@@ -188,7 +166,6 @@ impl<'a> Operands<'a> {
 
     // A pointer.
     pub fn frees(&self) -> bool
-        requires { self.now.at + 6 < places }
         ensures { Kept result frees false false self.now }
     {
         POINTER <= self.arg_type(self.at, 0)
@@ -196,7 +173,6 @@ impl<'a> Operands<'a> {
 
     // A bool.
     pub fn branches(&self) -> bool
-        requires { self.now.at + 6 < places }
         ensures { Kept result branches false false self.now }
     {
         self.arg_type(self.at, 0) == BOOL
@@ -204,7 +180,7 @@ impl<'a> Operands<'a> {
 
     // n arguments of type a, a dest of type d.
     pub fn takes(&self, n: u8, a: u64, d: u64) -> bool
-        requires { (self.now.at + 6 < places) × (self.now.at + 2 * n + 3 ≤ places) }
+        requires { self.now.at + 2 * n + 3 ≤ places }
         ensures { Kept result (takes (replicate n a) d) true false self.now }
     {
         let count = self.byte(self.at + 2);

@@ -8,19 +8,19 @@ ghost use Rattle.read_layout.specs.Layout.{texts_from};
 
 use read_fields::byte_or;
 
-// ---- one byte
+// ---- one byte, by the numbers of its letters and digits: is_ascii_digit and the like are of bytes, and any number may be asked here
 // 0 to 9.
 pub fn digit(b: u64) -> bool
     ensures { result ≡ digit b }
 {
-    0x30 <= b && b <= 0x39
+    matches!(b, 0x30..=0x39)
 }
 
 // Letters, `_` and `.`.
 pub fn letter(b: u64) -> bool
     ensures { result ≡ letter b }
 {
-    (0x41 <= b && b <= 0x5A) || (0x61 <= b && b <= 0x7A) || b == 0x5F || b == 0x2E
+    matches!(b, 0x41..=0x5A | 0x61..=0x7A | 0x5F | 0x2E)
 }
 
 // A byte that may stand in a text behind its first.
@@ -49,7 +49,8 @@ pub fn well_formed(text: &[u8]) -> bool
     }
 }
 
-// How long the text is without its closing digits.
+// How long the text is without its closing digits. A match, each of whose arms is a law: with map_or in its place the check's search for a proof
+// ran out.
 pub fn undigited(text: &[u8]) -> usize
     ensures { result ≡ undigited text.now (length text.now) }
 {
@@ -92,7 +93,7 @@ pub fn same_bytes(a: &[u8], b: &[u8]) -> bool
 
 // ---- the names before a text
 // Names that stand one behind the other: `count` of them, from a place on.
-#[derive(Clone, Copy)]
+#[derive(Clone, Copy, PartialEq, Eq, Debug)]
 pub struct Before {
     pub from: usize,
     pub count: u64,
@@ -104,6 +105,7 @@ pub fn same_name(s: &[u8], p: usize, text: &[u8]) -> bool
     requires { name_end s.now p ≤ length s.now }
     ensures { result ≡ same_bytes text.now (name_from s.now p).text }
 {
+    // as: a number that is known to fit, or u64 and usize, which have no From; try_from would hand out an error that cannot be.
     let n = byte_or(s, p + 1) as usize;
     same_bytes(text, &s[p + 2..p + 2 + n])
 }

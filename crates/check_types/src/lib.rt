@@ -40,6 +40,7 @@ impl<'a> Typed<'a> {
         requires { at + block_reach < places }
         ensures { (result ≡ block_verdict self.now.width self.now.types.now self.now.bytes.now at) × IfOk result (λ q. q ≤ at + block_reach) }
     {
+        // as: a number that is known to fit, or u64 and usize, which have no From; try_from would hand out an error that cannot be.
         let n = read_fields::be::<2>(self.bytes, at) as usize;
         self.body_at(n, at + 2 + 2)
     }

@@ -3,6 +3,7 @@ use Prim.Native.Nat.{ℕ, ◌<◌, ◌≤◌}
 use mathlib.Core.Path.{◌≡◌, refl, sym}
 use mathlib.Core.Bool.{Bool, true, false, cond, ◌||◌, ◌&&◌}
 use native.Mathlib.Omega.{arith}
+use mir.Val.{bool_byte}
 use lib.Dec.{eqb, ltb, leb}
 use lib.Ieee.{Float, nan, inf, fin, binary64, to_bits, is_nan}
 use borrow.Author.Tests.{eqb-true, eqb-false, ltb-true, leb-true}
@@ -24,6 +25,10 @@ bool_by x h false e = let n : x ≡ 1 → ⊥ = eqb-false x 1 e in omega arith
 pub bool_bits : (k x : ℕ) → k ≡ 1 → LitOk (record { kind = k; bits = x }) → cond (eqb x 1) 1 0 ≡ x
 unfolding literal_test
 bool_bits k x e h = let t : literal_test 1 x ≡ Ok tt = rw e at h.bits in bool_by x (at_most_le 1 x t) (eqb x 1) refl
+
+pub bool_byte_is : (b : Bool) → bool_byte b ≡ cond b 1 0
+bool_byte_is true = refl
+bool_byte_is false = refl
 
 -- ---- a char
 char_by : (x : ℕ) (b : Bool) → ltb x 0xD800 ≡ b → (b || (leb 0xE000 x && leb x 0x10FFFF)) ≡ true → x ≤ 0x10FFFF

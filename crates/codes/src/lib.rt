@@ -13,7 +13,7 @@ ghost use Rattle.codes.specs.Op.{op_of};
 use arith::{One, Two};
 use record::{Literal, Op};
 
-// ---- the code of an operation, by functions: a `From` would stand in a crate below, where the type does
+// ---- the code of an operation, by functions: code_of(op) says that the number is a code, where u8::from(op) would not
 #[tactic(auto, unfolding(arith::specs::Code::code1))]
 pub fn code1(o: One) -> u8
     ensures { result ≡ code1 o }
@@ -105,7 +105,7 @@ fn float_bits(x: f64) -> u64
     }
 }
 
-// The float of these bits, or the bits of a NaN.
+// The float of these bits, or the bits of a NaN. Asked of the bits, since from_bits asks that they are none of a NaN.
 fn float_literal(b: u64) -> Literal
     ensures { literal_of result ≡ record { kind = 2; bits = b } }
 {
@@ -126,6 +126,7 @@ pub fn literal_of(kind: u64, bits: u64) -> Literal
         0 => Literal::Int(bits.cast_signed()),
         1 => Literal::Bool(bits == 1),
         2 => float_literal(bits),
+        // as: a number that is known to fit, or u64 and usize, which have no From; try_from would hand out an error that cannot be.
         _ => Literal::Char(bits as u32),
     }
 }

@@ -172,6 +172,6 @@ opened g h ew et es =
       types_are = et;
       blocks_are = blocks_laid s h ∙ ap (laid_out s) (sym es);
       width = ap id_bytes (version_in s);
-      grounded = record { width = ew; names = few s h; each = subst (Each' s h) (sym es) (each_sound s h) };
+      grounded = record { width = ew; laid = record { names = few s h; each = subst (Each' s h) (sym es) (each_sound s h) } };
       few = omega (arith, ap length et, types_many s h, few s h);
     }

@@ -1,14 +1,14 @@
 -- From the runs and what was written to the engine's answer and its outputs.
-use Prim.Native.Nat.{ℕ, ◌-◌, ◌≤◌}
+use Prim.Native.Nat.{ℕ, ◌-◌, ◌<◌, ◌≤◌}
 use mathlib.Core.Path.{◌≡◌, refl, sym, ap, ◌∙◌}
-use mathlib.Core.Logic.{◌≢◌}
+use mathlib.Core.Logic.{◌≢◌, ◌⊎◌, inl, inr}
 use mathlib.Core.List.{List, append-nil}
 use mathlib.Core.Bool.{Bool, true, false, cond, not, ◌||◌}
 use native.Mathlib.Omega.{arith}
 use native.Mathlib.Nat.{add-zero}
 use lib.ListN.{length}
 use lib.Dec.{ltb}
-use borrow.Author.Tests.{ltb-false}
+use borrow.Author.Tests.{lt-ltb, le-ltb, ltb-false}
 use Rattle.record.specs.Record.{limits, function, plain, names_of, id_bytes}
 use Rattle.record.specs.Decode.{id_width}
 use Rattle.machine.specs.Machine.{Event}
@@ -34,13 +34,22 @@ use Rattle.engine.specs.Opened.{Begun, Engine, told_on}
 use Rattle.engine.proofs.Begun.{stays, Fed}
 use Rattle.engine.proofs.Runs.{Finishes, finishes, fits_on, same_events, Reached, unfit_later, none_told, reaches}
 
+-- one of the two rooms is too short, or neither is
+module _ (room more e l : ℕ) where
+  pub short_by : (room < e) ⊎ ((e ≤ room) × (more < l)) → too_short room more e l ≡ true
+  short_by (inl h) = rw (lt-ltb room e h) refl
+  short_by (inr h) = rw (le-ltb room e h.0, lt-ltb more l h.1) refl
+
+  pub enough_by : e ≤ room → l ≤ more → too_short room more e l ≡ false
+  enough_by h k = rw (le-ltb room e h, le-ltb more l k) refl
+
 neither : (a b : Bool) → (a || b) ≡ false → (a ≡ false) × (b ≡ false)
 neither true b e = absurd (cc e)
 neither false b e = (refl, e)
 
 -- ---- by where the run is at its end
 module _
-    (g : Ground) (store : List ℕ) {before : Cells} {t₀ : Turn} (fed : Fed g store before t₀)
+    (g : Ground) (store : List ℕ) {before : Cells 256} {t₀ : Turn} (fed : Fed g store before t₀)
     (events left : List ℕ)
   where
     abbrev s : List ℕ
@@ -62,7 +71,7 @@ module _
 
     -- size: the bytes of the store
     module _
-        {after : Cells} {t : Turn} {added : List Event} (reached : Reached g before after t₀ t added)
+        {after : Cells 256} {t : Turn} {added : List Event} (reached : Reached g before after t₀ t added)
         (size : ℕ) (stored : size ≡ length (store_bytes (values_from (store_in after) 0 (length types))))
       where
         abbrev last : Config
@@ -142,7 +151,7 @@ module _
 
 -- ---- by the runs of the code: from t₀ to r, before the first event, and from there, with events told, to t
 module _
-    {g : Ground} {store : List ℕ} {cells₀ cells₁ cells₂ : Cells} {l₁ m₁ l₂ m₂ : List ℕ} {t₀ r t : Turn}
+    {g : Ground} {store : List ℕ} {cells₀ cells₁ cells₂ : Cells 256} {l₁ m₁ l₂ m₂ : List ℕ} {t₀ r t : Turn}
     (fed : Fed g store cells₀ t₀) (begun : Begun g t₀)
     (a : Came g cells₀ cells₁ l₁ m₁ t₀ r) (b : Came g cells₁ cells₂ l₂ m₂ (told_on r) t) (events left : List ℕ)
   where
@@ -152,11 +161,11 @@ module _
     abbrev bytes : List ℕ
     bytes = store_bytes (values_from (store_in cells₂) 0 (length g.types.now))
 
-    pub unfit_told : t.spot.stop ≡ over.Unfit → Leaves events left (Err Unfit)
+    pub unfit_told : t.spot ≡ Err over.Unfit → Leaves events left (Err Unfit)
     unfit_told u = unfit_answer g store fed events left (unfit_later g a begun.waits (b.unfit u))
 
     -- size: the bytes of the store
-    module _ (fits : t.spot.stop ≢ over.Unfit) {size : ℕ} {l₃ m₃ : List ℕ} (measured : Wrote l₃ m₃ 0 size bytes) where
+    module _ (fits : t.spot ≢ Err over.Unfit) {size : ℕ} {l₃ m₃ : List ℕ} (measured : Wrote l₃ m₃ 0 size bytes) where
       told : Finishes g cells₁ cells₂ l₂ m₂ (told_on r) t
       told = finishes g b refl fits
 
@@ -172,7 +181,7 @@ module _
 
       -- again from there, with events written
       pub done_told :
-          {again : Cells} {events' left' : List ℕ} {u : Turn} {how : Ending} {p : ℕ} →
+          {again : Cells 256} {events' left' : List ℕ} {u : Turn} {how : Ending} {p : ℕ} →
           too_short (length events) (length left) t.event size ≡ false →
           Came g cells₁ again events events' (told_on r) u →
           Wrote left left' 0 p bytes →

@@ -2,13 +2,12 @@
 use Prim.Native.Nat.{ℕ, suc, ◌<◌, ◌≤◌}
 use mathlib.Core.Path.{◌≡◌, refl, sym, ap, ◌∙◌}
 use mathlib.Core.List.{List, []}
-use mathlib.Core.Bool.{Bool, true, false, cond, not, ◌&&◌}
+use mathlib.Core.Bool.{Bool, true, false, not, ◌&&◌}
 use mathlib.Core.Option.{Option}
 use native.Mathlib.Omega.{arith}
 use lib.ListN.{length}
-use lib.Dec.{eqb}
 use Rattle.arith.specs.Value.{Val}
-use Rattle.std.proofs.Common.{Option as CodeOption, None, Some, Err}
+use Rattle.std.proofs.Common.{Option as CodeOption, None, Some, Result, Ok, Err}
 use Rattle.record.specs.declared.Fault.{Fault}
 use Rattle.record.specs.Record.{Instr, Block, Function, function, plain, names_of, id_bytes}
 use Rattle.record.specs.Reader.{Res, got, fault}
@@ -28,10 +27,11 @@ use Rattle.engine_cells.specs.declared.Cells.{Cells}
 use Rattle.engine_cells.specs.Cells.{store_in}
 use Rattle.engine_house.specs.Reads.{FitAs, StoreAs, ListAs, longest_list}
 use Rattle.engine_quiet.specs.declared.Ground.{Ground}
+use Rattle.engine_quiet.specs.declared.Over.{Over}
 use Rattle.engine_quiet.specs.declared.Spot.{Spot}
 use Rattle.engine_quiet.specs.Spot.{blocks_of, told_types, Landed}
 use Rattle.engine_events.specs.declared.Turn.{Turn}
-use Rattle.engine_events.specs.Turn.{config_in, events_ahead}
+use Rattle.engine_events.specs.Turn.{config_in, ahead_of, events_ahead}
 use Rattle.engine_steps.specs.Came.{steps_of, unfit_of}
 use Rattle.engine.specs.Opened.{Opened, Begun, Engine}
 
@@ -64,27 +64,27 @@ module _ (g : Ground) where
           stays g.s.now store list limit events left (Err Unfit) refl
           (answers_unread g.s.now store list limit events left o.it o.end o.accepted k q e)
 
-ahead_few : (b : Bool) (n : ℕ) → cond b 0 (suc n) ≤ suc n
-ahead_few true n = omega arith
-ahead_few false n = omega arith
+ahead_few : (r : Result Spot Over) (n : ℕ) → ahead_of r n ≤ suc n
+ahead_few (Ok p) n = omega arith
+ahead_few (Err k) n = omega arith
 
 module _ (g : Ground) where
-  -- p: where the run lands at its start
+  -- r: where the run lands at its start
   pub begun :
-      (n limit : ℕ) (p : Spot) → ListAs (list g) (answers (list g) 0) (Some n) → Landed g (land (blocks_of g) 0) p →
-      Begun g (record { spot = p; more = limit; answer = 5; answers = n; event = 0; tells = false })
+      (n limit : ℕ) (r : Result Spot Over) → ListAs (list g) (answers (list g) 0) (Some n) → Landed g (land (blocks_of g) 0) r →
+      Begun g (record { spot = r; more = limit; answer = 5; answers = n; event = 0; tells = false })
   unfolding ListAs
-  begun n limit p h l = go (answers (list g) 0) refl h
+  begun n limit r h l = go (answers (list g) 0) refl h
     where
       t : Turn
-      t = record { spot = p; more = limit; answer = 5; answers = n; event = 0; tells = false }
+      t = record { spot = r; more = limit; answer = 5; answers = n; event = 0; tells = false }
 
       go : (v : Res (List Answer)) → answers (list g) 0 ≡ v → ListAs (list g) v (Some n) → Begun g t
       go (got xs q) e h =
           let m : h.count ≡ n = cc h.are in
           let few : n ≤ length (list g) = omega (arith, m, h.few) in
           let short : length (list g) < longest_list = h.short in
-          let ahead : events_ahead t ≤ suc n = ahead_few (eqb p.left 0) n in
+          let ahead : events_ahead t ≤ suc n = ahead_few r n in
           record {
             told = xs;
             end = q;
@@ -106,7 +106,7 @@ module _ (g : Ground) where
 
 -- ---- the store; cells: those that were filled from it, t: the run at its start
 -- inputs that read, the store's values each of its name's type: the machine from them and the code at its start have the same run
-pub record Fed (g : Ground) (store : List ℕ) (cells : Cells) (t : Turn) : Type 0 where
+pub record Fed (g : Ground) (store : List ℕ) (cells : Cells 256) (t : Turn) : Type 0 where
   pub given : Given g.s.now store g.list.now
   pub width : id_bytes given.rec.version ≡ id_width g.s.now
   pub names : names_of (function (plain given.rec)) ≡ length g.types.now
@@ -148,26 +148,26 @@ module _ (g : Ground) (store : List ℕ) (t : Turn) (o : Opened g) (b : Begun g 
   typed_as vs c e = ap (λ (ts : List ℕ). of_types ts vs) (sym o.types_are) ∙ e
 
   pub store_refused :
-      StoreAs types (stored (length types) store 0) None → (events left : List ℕ) →
+      (cells : Cells 256) → StoreAs types (stored (length types) store 0) cells None → (events left : List ℕ) →
       Engine s store (list g) t.more events left events left (Err Unfit)
   unfolding StoreAs FitAs
-  store_refused h events left =
+  store_refused cells h events left =
       stays s store (list g) t.more events left (Err Unfit) refl
       (go (stored (length types) store 0) (ap (λ (n : ℕ). stored n store 0) many) h)
     where
       go :
-          (v : Res (List (Option Val))) → stored (names_of f) store 0 ≡ v → StoreAs types v None →
+          (v : Res (List (Option Val))) → stored (names_of f) store 0 ≡ v → StoreAs types v cells None →
           engine s store (list g) t.more events left ≡ Err Unfit
       go (got vs p) e h = by (of_types types vs) refl h
         where
-          by : (c : Bool) → of_types types vs ≡ c → FitAs c vs None → engine s store (list g) t.more events left ≡ Err Unfit
-          by true q k = absurd (cc k.are)
+          by : (c : Bool) → of_types types vs ≡ c → FitAs c vs cells None → engine s store (list g) t.more events left ≡ Err Unfit
+          by true q k = absurd (cc k.0)
           by false q k =
               engine_unfit s store (list g) t.more events left (given_by vs p e)
               (ap (λ (x : Bool). x && not (unfit_within (plain_machine f) f.blocks t.more (starting f vs b.told))) (typed_as vs false q))
       go (fault k q) e h = store_unread s store (list g) t.more events left o.it o.end o.accepted k q e
 
-  module _ (cells : Cells) where
+  module _ (cells : Cells 256) where
     starts_there : (vs : List (Option Val)) → store_in cells ≡ holding vs → starting f vs b.told ≡ config_in g cells t
     unfolding start
     starts_there vs held =
@@ -189,17 +189,14 @@ module _ (g : Ground) (store : List ℕ) (t : Turn) (o : Opened g) (b : Begun g 
               λ i. typed i && not (unfit_within (told_types (sym o.types_are i)) (o.blocks_are i) t.more (there i));
         }
 
-    pub fed : {r : CodeOption Cells} → StoreAs types (stored (length types) store 0) r → r ≡ Some cells → Fed g store cells t
+    pub fed : {r : CodeOption Unit} {u : Unit} → StoreAs types (stored (length types) store 0) cells r → r ≡ Some u → Fed g store cells t
     unfolding StoreAs FitAs
-    fed {r} h e = go (stored (length types) store 0) (ap (λ (n : ℕ). stored n store 0) many) h
+    fed {r} {u} h e = go (stored (length types) store 0) (ap (λ (n : ℕ). stored n store 0) many) h
       where
-        go : (v : Res (List (Option Val))) → stored (names_of f) store 0 ≡ v → StoreAs types v r → Fed g store cells t
+        go : (v : Res (List (Option Val))) → stored (names_of f) store 0 ≡ v → StoreAs types v cells r → Fed g store cells t
         go (got vs p) q h = by (of_types types vs) refl h
           where
-            by : (c : Bool) → of_types types vs ≡ c → FitAs c vs r → Fed g store cells t
-            by true u k =
-                let both : Some k.cells ≡ Some cells = sym k.are ∙ e in
-                let same : k.cells ≡ cells = cc both in
-                fed_by vs p q u (ap store_in (sym same) ∙ k.hold)
+            by : (c : Bool) → of_types types vs ≡ c → FitAs c vs cells r → Fed g store cells t
+            by true u k = fed_by vs p q u k.1
             by false u k = absurd (cc (k, e))
         go (fault k o) q h = absurd (cc (h, e))

@@ -1,51 +1,49 @@
--- How a run ended, by the spot at which it stands.
+-- How a run ended, by where it stands.
 use Prim.Native.Nat.{ℕ, ◌<◌}
 use mathlib.Core.Path.{◌≡◌, refl, sym, ap, ◌∙◌}
 use mathlib.Core.Logic.{◌≢◌}
 use mathlib.Core.List.{List}
+use Rattle.std.proofs.Common.{Result, Ok, Err}
 use Rattle.record.specs.Record.{Instr}
-use Rattle.record.specs.Reader.{num_at}
-use Rattle.record.specs.Decode.{items, id_width}
-use Rattle.record.specs.Again.{instrs_from}
+use Rattle.record.specs.Decode.{id_width}
 use Rattle.record.proofs.Again.{instrs_more}
-use Rattle.machine.specs.Machine.{Stop}
-use Rattle.running.specs.declared.Ending.TheVariants.{Division, Limit}
+use Rattle.machine.specs.Machine.{at_end}
+use Rattle.running.specs.declared.Ending.{Ending}
+use Rattle.running.specs.declared.Ending.TheVariants.{Limit}
+use Rattle.running.specs.declared.RunError.{RunError}
+use Rattle.running.specs.declared.RunError.TheVariants as error
 use Rattle.running.specs.Steps.{over, first_of}
 use Rattle.running.specs.Engine.{stop_ending, ending_of}
+use Rattle.engine_quiet.specs.declared.Ground.{Ground}
 use Rattle.engine_quiet.specs.declared.Over.{Over}
-use Rattle.engine_quiet.specs.declared.Over.TheVariants as over'
+use Rattle.engine_quiet.specs.declared.Over.TheVariants.{End, Ret, Halt, Unset, Division, Unfit}
 use Rattle.engine_quiet.specs.declared.Spot.{Spot}
-use Rattle.engine_quiet.specs.Spot.{stop_by, body_at, stand_of}
+use Rattle.engine_quiet.specs.Spot.{stop_by, stand_of, Standing}
+use Rattle.engine.specs.Opened.{ended_by}
 
-module _ (s : List ℕ) (p : Spot) where
-  -- the id of the instruction there, and the stop with it
-  abbrev pub id_at : ℕ
-  id_at = num_at s p.at (id_width s)
+by_limit : (s : List ℕ) (p : Spot) → 0 < p.left → Limit ≡ ending_of (stand_of s (Ok p))
+by_limit s p h =
+    sym (ap (λ (is : List Instr). ending_of (first_of p.block is (over at_end))) (instrs_more (id_width s) s p.at p.left h))
 
-  abbrev pub stop_at : Stop
-  stop_at = stop_by p.stop id_at
+-- so it is where it fits
+pub ended_fit :
+    (g : Ground) (r : Result Spot Over) (how : Ending) → Standing g r → ended_by r ≡ Ok how →
+    (how ≡ ending_of (stand_of g.s.now r)) × (r ≢ Err Unfit)
+unfolding stop_by stop_ending
+ended_fit g (Ok p) how st e = (sym (cc e) ∙ by_limit g.s.now p st.some, λ u. cc u)
+ended_fit g (Err End) how st e = (sym (cc e), λ u. cc u)
+ended_fit g (Err Ret) how st e = (sym (cc e), λ u. cc u)
+ended_fit g (Err Halt) how st e = (sym (cc e), λ u. cc u)
+ended_fit g (Err Unset) how st e = (sym (cc e), λ u. cc u)
+ended_fit g (Err (Division id)) how st e = (sym (cc e), λ u. cc u)
+ended_fit g (Err Unfit) how st e = absurd (cc e)
 
-  pub stopped : p.left ≡ 0 → stand_of s p ≡ over stop_at
-  unfolding instrs_from items
-  stopped z = ap (λ (n : ℕ). first_of p.block (body_at s p.at n) (over stop_at)) z
-
-  pub by_limit : 0 < p.left → Limit ≡ ending_of (stand_of s p)
-  by_limit h =
-      sym (ap (λ (is : List Instr). ending_of (first_of p.block is (over stop_at))) (instrs_more (id_width s) s p.at p.left h))
-
-  pub by_stop : (n : Over) → p.left ≡ 0 → p.stop ≡ n → stop_ending (stop_by n id_at) ≡ ending_of (stand_of s p)
-  by_stop n z e = sym (ap ending_of (stopped z) ∙ ap (λ (k : Over). stop_ending (stop_by k id_at)) e)
-
-  pub by_division :
-      (id : ℕ) → id ≡ id_at → p.left ≡ 0 → p.stop ≢ over'.End → p.stop ≢ over'.Ret → p.stop ≢ over'.Halt → p.stop ≢ over'.Unset →
-      Division id ≡ ending_of (stand_of s p)
-  unfolding stop_by stop_ending
-  by_division id i z a b c d = ap Division i ∙ go p.stop refl ∙ by_stop p.stop z refl
-    where
-      go : (n : Over) → p.stop ≡ n → Division id_at ≡ stop_ending (stop_by n id_at)
-      go over'.End e = absurd (a e)
-      go over'.Ret e = absurd (b e)
-      go over'.Halt e = absurd (c e)
-      go over'.Unset e = absurd (d e)
-      go over'.Division e = refl
-      go over'.Unfit e = refl
+-- and where it does not
+pub ended_unfit : (r : Result Spot Over) (k : RunError) → ended_by r ≡ Err k → (r ≡ Err Unfit) × (k ≡ error.Unfit)
+ended_unfit (Ok p) k e = absurd (cc e)
+ended_unfit (Err End) k e = absurd (cc e)
+ended_unfit (Err Ret) k e = absurd (cc e)
+ended_unfit (Err Halt) k e = absurd (cc e)
+ended_unfit (Err Unset) k e = absurd (cc e)
+ended_unfit (Err (Division id)) k e = absurd (cc e)
+ended_unfit (Err Unfit) k e = (refl, sym (cc e))

@@ -6,10 +6,10 @@ use mathlib.Core.List.{List, [], append-nil}
 use mathlib.Core.Bool.{true, false}
 use native.Mathlib.Omega.{arith}
 use lib.ListN.{length}
+use Rattle.std.proofs.Common.{Err}
 use Rattle.record.specs.Record.{Instr, Block}
 use Rattle.record.specs.Write.{join}
 use Rattle.record.specs.Decode.{id_width}
-use Rattle.record.proofs.Ends.{instrs_grow}
 use Rattle.machine.specs.Machine.{Context, Event, Stop, Mach}
 use Rattle.running.specs.Steps.{over, Config, take_step, steps, shifted, shifted_mach}
 use Rattle.running.specs.House.{events_bytes}
@@ -20,17 +20,11 @@ use Rattle.write_bytes.specs.Put.{Wrote}
 use Rattle.engine_cells.specs.declared.Cells.{Cells}
 use Rattle.engine_quiet.specs.declared.Ground.{Ground}
 use Rattle.engine_quiet.specs.declared.Over.TheVariants.{Unfit}
-use Rattle.engine_quiet.specs.declared.Spot.{Spot}
-use Rattle.engine_quiet.specs.Spot.{told_types, blocks_of, Standing}
+use Rattle.engine_quiet.specs.Spot.{stop_by, told_types, blocks_of, stand_of}
 use Rattle.engine_events.specs.declared.Turn.{Turn}
 use Rattle.engine_events.specs.Turn.{config_in}
-use Rattle.engine_steps.specs.Came.{steps_of, unfit_of, Came}
+use Rattle.engine_steps.specs.Came.{IsOver, steps_of, unfit_of, Came}
 use Rattle.engine.specs.Opened.{told_on}
-use Rattle.engine.proofs.Ended.{stop_at, stopped}
-
--- ---- a run stands inside the record
-pub spot_inside : {g : Ground} {p : Spot} → Standing g p → p.at ≤ length g.s.now
-spot_inside {g} {p} h = omega (arith, instrs_grow (id_width g.s.now) g.s.now p.at p.left, h.sound.inside)
 
 -- ---- what is over takes no answer
 over_fits :
@@ -46,18 +40,18 @@ module _ (g : Ground) where
 
   -- the run is over, or no step may be taken
   abbrev Spent : Turn → Type 0
-  Spent t = (t.spot.left ≡ 0) ⊎ (t.more ≡ 0)
+  Spent t = IsOver t ⊎ (t.more ≡ 0)
 
-  module _ (cells : Cells) (t : Turn) where
+  module _ (cells : Cells 256) (t : Turn) where
     spent_stays :
         Spent t → (es : List Event) (k : ℕ) →
         steps_of g t.more (shifted es k (config_in g cells t)) ≡ shifted es k (config_in g cells t)
     unfolding steps
     spent_stays (inl z) es k =
         let m = shifted_mach es k (config_in g cells t).mach in
-        let e = stopped s t.spot z in
+        let e = ap (stand_of s) z.1 in
         (λ i. steps_of g t.more (record { stand = e i; mach = m })) ∙
-        over_stays (told_types g.types.now) (blocks_of g) t.more (stop_at s t.spot) m ∙
+        over_stays (told_types g.types.now) (blocks_of g) t.more (stop_by z.0) m ∙
         (λ i. record { stand = sym e i; mach = m })
     spent_stays (inr z) es k = ap (λ (n : ℕ). steps_of g n (shifted es k (config_in g cells t))) z
 
@@ -65,21 +59,21 @@ module _ (g : Ground) where
     unfolding unfit_within
     spent_fits (inl z) =
         let m = (config_in g cells t).mach in
-        let e = stopped s t.spot z in
+        let e = ap (stand_of s) z.1 in
         (λ i. unfit_of g t.more (record { stand = e i; mach = m })) ∙
-        over_fits (told_types g.types.now) (blocks_of g) t.more (stop_at s t.spot) m
+        over_fits (told_types g.types.now) (blocks_of g) t.more (stop_by z.0) m
     spent_fits (inr z) = ap (λ (n : ℕ). unfit_of g n (config_in g cells t)) z
 
   -- ---- a run that tells its events, from t to r
-  pub record Finishes (before after : Cells) (l m : List ℕ) (t r : Turn) : Type 0 where
+  pub record Finishes (before after : Cells 256) (l m : List ℕ) (t r : Turn) : Type 0 where
     pub added : List Event
     pub config :
         steps_of g t.more (config_in g before t) ≡ shifted added (t.more - r.more) (config_in g after r)
     pub fits : unfit_of g t.more (config_in g before t) ≡ false
     pub wrote : Wrote l m t.event r.event (events_bytes (id_width s) added)
 
-  module _ {before after : Cells} {l m : List ℕ} {t r : Turn} (c : Came g before after l m t r) (tells : t.tells ≡ true) where
-    pub finishes : r.spot.stop ≢ Unfit → Finishes before after l m t r
+  module _ {before after : Cells 256} {l m : List ℕ} {t r : Turn} (c : Came g before after l m t r) (tells : t.tells ≡ true) where
+    pub finishes : r.spot ≢ Err Unfit → Finishes before after l m t r
     finishes n =
         let w = c.fit n in
         let e = c.ended tells in
@@ -95,20 +89,20 @@ module _ (g : Ground) where
     fits_on h = finishes (λ e. absurd (cc (sym (c.unfit e) ∙ h)))
 
   pub same_events :
-      {before after after' : Cells} {l m l' m' : List ℕ} {t r r' : Turn} (a : Finishes before after l m t r) (b : Finishes before after' l' m' t r') →
+      {before after after' : Cells 256} {l m l' m' : List ℕ} {t r r' : Turn} (a : Finishes before after l m t r) (b : Finishes before after' l' m' t r') →
       b.added ≡ a.added
   same_events a b =
       sym (append-nil b.added) ∙ ap (λ (c : Config). c.mach.events) (sym b.config ∙ a.config) ∙ append-nil a.added
 
   -- ---- from the start to r, before the first event, and then on to t
-  pub record Reached (before after : Cells) (t₀ t : Turn) (added : List Event) : Type 0 where
+  pub record Reached (before after : Cells 256) (t₀ t : Turn) (added : List Event) : Type 0 where
     pub config :
         steps_of g t₀.more (config_in g before t₀) ≡ shifted added (t₀.more - t.more) (config_in g after t)
     pub fits : unfit_of g t₀.more (config_in g before t₀) ≡ false
     pub size : t.event ≡ length (events_bytes (id_width s) added)
 
   module _
-      {cells₀ cells₁ : Cells} {l m : List ℕ} {t₀ r : Turn} (c : Came g cells₀ cells₁ l m t₀ r) (waits : t₀.tells ≡ false)
+      {cells₀ cells₁ : Cells 256} {l m : List ℕ} {t₀ r : Turn} (c : Came g cells₀ cells₁ l m t₀ r) (waits : t₀.tells ≡ false)
     where
       -- an answer that does not fit is met later, if at all
       pub unfit_later :
@@ -125,7 +119,7 @@ module _ (g : Ground) where
           omega (arith, w.wrote.end, e, z)
 
       pub reaches :
-          {cells₂ : Cells} {l' m' : List ℕ} {t : Turn} → t₀.event ≡ 0 → t.more ≤ r.more →
+          {cells₂ : Cells 256} {l' m' : List ℕ} {t : Turn} → t₀.event ≡ 0 → t.more ≤ r.more →
           (f : Finishes cells₁ cells₂ l' m' (told_on r) t) → Reached cells₀ cells₂ t₀ t f.added
       reaches {cells₂} {l'} {m'} {t} z fewer f =
           let w = c.fit (c.calm waits) in

@@ -1,40 +1,39 @@
 // Running an accession: the plain machine over a record, a starting store and a list of answers, up to a limit of steps. What a run comes to
 // is learnt first; then it is run again from its first event on, and its events are written.
+// as: a number that is known to fit, or u64 and usize, which have no From; try_from would hand out an error that cannot be.
 #![tactic(auto)]
 
 ghost use Rattle.std.specs.Prelude.{◌≡◌, Ok};
 ghost use Rattle.record.specs.Answer.{checked};
-ghost use Rattle.running.specs.Engine.{ending_of, engine, engine_events, engine_store};
-ghost use Rattle.engine_quiet.specs.Spot.{Grounded, Standing, stand_of};
-ghost use Rattle.engine.specs.Opened.{Opened, Begun, Engine};
+ghost use Rattle.running.specs.Engine.{engine, engine_events, engine_store};
+ghost use Rattle.engine.specs.Opened.{ended_by, Opened, Begun, Engine};
 
-use engine_cells::NAMES;
+use engine_cells::{Cells, NAMES};
 use engine_events::Turn;
-use engine_quiet::{Ground, Over};
+use engine_quiet::{Ground, Over, Spot};
 use running::{Ending, Run, RunError};
 
 // As many blocks as a record can have.
 const BLOCKS: usize = 64;
 
-// How a run ended.
-fn ending(g: &Ground, t: Turn) -> Ending
-    requires grounded { Grounded g.now }
-    requires stands { Standing g.now t.spot }
-    ensures { result ≡ ending_of (stand_of g.now.s.now t.spot) }
+// How a run ended, by where it stands or how it is over; or that an answer did not fit.
+fn ending(spot: Result<Spot, Over>) -> Result<Ending, RunError>
+    ensures { result ≡ ended_by spot }
 {
-    if t.spot.left > 0 {
-        return Ending::Limit;
-    }
-    match t.spot.stop {
-        Over::End => Ending::End,
-        Over::Ret => Ending::Ret,
-        Over::Halt => Ending::Halt,
-        Over::Unset => Ending::Unset,
-        _ => Ending::Division(read_instrs::read_id(g.s, t.spot.at, g.w)),
+    match spot {
+        Ok(_) => Ok(Ending::Limit),
+        Err(Over::End) => Ok(Ending::End),
+        Err(Over::Ret) => Ok(Ending::Ret),
+        Err(Over::Halt) => Ok(Ending::Halt),
+        Err(Over::Unset) => Ok(Ending::Unset),
+        Err(Over::Division(id)) => Ok(Ending::Division(id)),
+        Err(Over::Unfit) => Err(RunError::Unfit),
     }
 }
 
 // A run with all answers of a list that reads, from its start.
+// store, events and left come down to here from run, each as it was lent, and are used here alone: a struct made in run would only be taken
+// apart.
 fn run_told(
     g: &Ground,
     store: &[u8],
@@ -47,7 +46,8 @@ fn run_told(
     ensures { Engine g.now.s.now store.now g.now.list.now t0.more
         events.old left.old events.new left.new result }
 {
-    let mut cells = engine_house::read_store(store, g.types).ok_or(RunError::Unfit)?;
+    let mut cells = Cells::<NAMES>::new();
+    engine_house::read_store(store, g.types, &mut cells).ok_or(RunError::Unfit)?;
     let mut none = [0u8; 0];
     let first = Turn {
         tells: true,
@@ -55,12 +55,10 @@ fn run_told(
     };
     let mut again = cells;
     let t = engine_steps::steps(g, &mut cells, &mut none, first);
-    if t.spot.stop == Over::Unfit {
-        return Err(RunError::Unfit);
-    }
+    let how = ending(t.spot)?;
     let names = g.types.len() as u64;
     let size = engine_house::put_store(&cells, names, &mut none);
-    if (events.len() < t.event) | (left.len() < size) {
+    if events.len() < t.event || left.len() < size {
         return Err(RunError::Room(t.event, size));
     }
     engine_steps::steps(g, &mut again, events, first);
@@ -69,7 +67,7 @@ fn run_told(
         events: t.event,
         store: size,
         steps: t0.more - t.more,
-        ending: ending(g, t),
+        ending: how,
     })
 }
 
@@ -118,7 +116,7 @@ fn run_accepted(
     let g = Ground {
         s,
         w: head.width,
-        types: &types[..head.names as usize],
+        types: &types[..usize::from(head.names)],
         starts: &starts[..head.blocks],
         list,
     };

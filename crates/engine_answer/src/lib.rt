@@ -1,4 +1,5 @@
 // The engine's answer in numbers, for those who hand it on.
+// as: a number that is known to fit, or u64 and usize, which have no From; try_from would hand out an error that cannot be.
 #![tactic(auto)]
 
 ghost use Rattle.std.specs.Prelude.{◌≡◌, ◌≤◌, length, take};
@@ -9,11 +10,21 @@ use running::{Ending, Run, RunError};
 
 // The answer's number, its values with 0 where it has none, and how many it has. The values are the bytes of the events and of the store, the
 // steps, how the run ended, and the id of a division; of a refusal the first is its offset; of 14 the first two are the bytes needed.
-#[derive(Clone, Copy)]
+#[derive(Clone, Copy, PartialEq, Eq, Debug)]
 pub struct Numbers {
     pub number: u8,
     pub values: [u64; 5],
     pub count: usize,
+    ghost few: { count ≤ 5 },
+}
+
+impl Numbers {
+    // The values that it has.
+    pub fn given(&self) -> &[u64]
+        ensures { result.now ≡ take self.now.count self.now.values }
+    {
+        &self.values[..self.count]
+    }
 }
 
 // How a run ended: 0 for the end, 1 for ret, 2 for halt, 3 for unset, 4 for a division by zero, 5 for a limit that is spent; and the id of the

@@ -5,6 +5,8 @@ use mathlib.Core.Logic.{◌≢◌}
 use mathlib.Core.Bool.{Bool, true, false, cond, not}
 use mathlib.Core.Option.{Option, none, some}
 use lib.Dec.{leb, eqb}
+use borrow.Author.Tests.{eqb-true, eqb-false}
+use Rattle.std.specs.Bool.{then_some}
 use Rattle.std.proofs.Common.{None, Some}
 use Rattle.arith.specs.Value.{Val, int, float, literal, char, bool, pointer}
 use Rattle.arith.specs.Operation.{unset, as_int, as_bool, shift}
@@ -85,6 +87,21 @@ module _ (c : Cell) where
       go : (b : Bool) → None ≡ bool_held (cond b none (some (value_by c.kind c.word c.offset)))
       go true = refl
       go false = sym (ap found (no_bool c.word c.offset c.kind n))
+
+  -- the same by a test of its kind
+  pub int_by : then_some (eqb c.kind 0) c.word ≡ int_held (cell_holds c)
+  int_by = go (eqb c.kind 0) refl
+    where
+      go : (b : Bool) → eqb c.kind 0 ≡ b → then_some b c.word ≡ int_held (cell_holds c)
+      go true e = int_cell (eqb-true c.kind 0 e)
+      go false e = no_int_cell (eqb-false c.kind 0 e)
+
+  pub bool_by : then_some (eqb c.kind 1) (not (eqb c.word 0)) ≡ bool_held (cell_holds c)
+  bool_by = go (eqb c.kind 1) refl
+    where
+      go : (b : Bool) → eqb c.kind 1 ≡ b → then_some b (not (eqb c.word 0)) ≡ bool_held (cell_holds c)
+      go true e = bool_cell (eqb-true c.kind 1 e)
+      go false e = no_bool_cell (eqb-false c.kind 1 e)
 
 -- ---- what is held, by what it is as an int or as a bool
 pub is_int : (o : Option Val) (w : ℕ) → Some w ≡ int_held o → o ≡ some (int w)

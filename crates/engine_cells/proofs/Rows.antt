@@ -71,7 +71,7 @@ size_cons size v (some vs) = ap Some (omega (arith, length-append (value_bytes v
 
 -- x: the first name behind the first i, c: its cell
 module _
-    (cells : Cells) (s : List ℕ) (at n i x : ℕ) (c : Cell) (size : ℕ)
+    {N : ℕ} (cells : Cells N) (s : List ℕ) (at n i x : ℕ) (c : Cell) (size : ℕ)
     (e : x ≡ num_at s (at + 2 * i) 2) (ec : c ≡ cell_in cells x) (h : i < n) where
   abbrev rest : Option (List Val)
   rest = read_on (store_in cells) s at n (i + 1)
@@ -118,14 +118,14 @@ written_cons {l} {m} {i} {q} r v (some vs) w f =
     (wrote_append (value_bytes v) (values_bytes vs) w (record { out = f; end = refl })).out
 
 pub row_went :
-    {l m : List ℕ} {p q : ℕ} (r : List ℕ) (cells : Cells) (s : List ℕ) (at n i x : ℕ) →
+    {N : ℕ} {l m : List ℕ} {p q : ℕ} (r : List ℕ) (cells : Cells N) (s : List ℕ) (at n i x : ℕ) →
     x ≡ num_at s (at + 2 * i) 2 →
     i < n →
     Wrote l m p q (value_bytes (value_in cells x)) →
     RowWritten m r q (read_on (store_in cells) s at n (i + 1)) →
     RowWritten l r p (read_on (store_in cells) s at n i)
 unfolding RowWritten
-row_went {l} {m} {p} {q} r cells s at n i x e h w f =
+row_went {N} {l} {m} {p} {q} r cells s at n i x e h w f =
     subst (RowWritten l r p) (sym (first_name cells s at n i x (cell_in cells x) 0 e refl h)) (go (eqb (cell_in cells x).kind nothing_byte) refl)
   where
     rest' : Option (List Val)

@@ -4,7 +4,7 @@ use Prim.Native.Nat.{ℕ, ◌<◌, ◌≤◌}
 use mathlib.Core.Path.{◌≡◌, refl, sym, ap, ◌∙◌, fun_ext}
 use mathlib.Core.Logic.{◌≢◌}
 use mathlib.Core.Bool.{Bool, true, false}
-use mathlib.Core.Option.{none, some}
+use mathlib.Core.Option.{Option, none, some}
 use native.Mathlib.Omega.{arith}
 use mathlib.Core.List.{List}
 use lib.ListN.{length, get_or, set, replicate}
@@ -13,7 +13,7 @@ use lib.Dec.{ltb}
 use borrow.Author.Tests.{le-leb, lt-leb, eq-eqb, ne_eqb, ltb-true, ltb-false}
 use Rattle.std.proofs.lemmas.List.{get_or-replicate, get_or_past, length-replicate}
 use Rattle.arith.specs.Map.{upd}
-use Rattle.arith.specs.Value.{pointer}
+use Rattle.arith.specs.Value.{Val, pointer}
 use Rattle.arith.proofs.Map.{upd_same, upd_other}
 use Rattle.record.specs.declared.NameIx.{NameIx}
 use Rattle.record.specs.Record.{nm, NameIx-discrete}
@@ -23,7 +23,7 @@ use Rattle.running.specs.House.{held, nothing_byte}
 use Rattle.running.specs.Items.{plain_from}
 use Rattle.engine_cells.specs.declared.Cell.{Cell}
 use Rattle.engine_cells.specs.declared.Cells.{Cells}
-use Rattle.engine_cells.specs.Cells.{value_by, held_by, cell_value, cell_holds, cell_in, no_cell, store_in}
+use Rattle.engine_cells.specs.Cells.{value_by, held_by, cell_value, cell_holds, cell_in, store_in}
 
 -- ---- a cell by its kind
 module _ (kind word offset : ℕ) where
@@ -47,7 +47,7 @@ module _ (kind word offset : ℕ) where
   held_plain h = held_some (λ e. absurd (omega (arith, h, e))) ∙ ap some (by_plain h)
 
 -- ---- what a name holds
-module _ (cells : Cells) (x : ℕ) where
+module _ {N : ℕ} (cells : Cells N) (x : ℕ) where
   pub read_in : store_in cells (nm x) ≡ cell_holds (cell_in cells x)
   unfolding store_in
   read_in = refl
@@ -64,7 +64,7 @@ module _ (cells : Cells) (x : ℕ) where
 
 -- the name whose index stands at a place of the record
 pub name_at :
-    (cells : Cells) (s : List ℕ) (at : ℕ) {x : ℕ} (c : Cell) →
+    {N : ℕ} (cells : Cells N) (s : List ℕ) (at : ℕ) {x : ℕ} (c : Cell) →
     x ≡ num_at s at 2 →
     c ≡ cell_in cells x →
     store_in cells (index_from s at) ≡ cell_holds c
@@ -72,32 +72,40 @@ unfolding index_from
 name_at cells s at {x} c ex e = ap (λ (n : ℕ). store_in cells (nm n)) (sym ex) ∙ held_in cells x c e
 
 -- ---- a cell that is set
-pub set_store :
-    (cells after : Cells) (x : ℕ) (c : Cell) →
-    x < length cells.cells →
-    after.cells ≡ set cells.cells x c →
-    store_in after ≡ upd NameIx-discrete (store_in cells) (nm x) (cell_holds c)
-unfolding store_in
-set_store cells after x c h e = fun_ext (λ y. by y (NameIx-discrete y (nm x)))
-  where
-    -- what the cell at a place holds afterwards
-    at : (j : ℕ) → store_in after (nm j) ≡ cell_holds (get_or (set cells.cells x c) j no_cell)
-    at j = ap (λ (l : List Cell). cell_holds (get_or l j no_cell)) e
+module _ {N : ℕ} (cells after : Cells N) (x : ℕ) (c : Cell) where
+  -- what a name holds by parts of which that of x is set
+  set_at : ℕ → ℕ → ℕ → ℕ → Option Val
+  set_at j kind word offset = held_by (get_or (set cells.kinds x kind) j nothing_byte) (get_or (set cells.words x word) j 0) (get_or (set cells.offsets x offset) j 0)
 
-    by : (y : NameIx) → Dec (y ≡ nm x) → store_in after y ≡ upd NameIx-discrete (store_in cells) (nm x) (cell_holds c) y
-    by y (yes p) =
-        ap (store_in after) p ∙ at x ∙
-        ap (λ (d : Cell). cell_holds d) (get_or-set_same cells.cells x c no_cell h) ∙
-        sym (upd_same NameIx-discrete (store_in cells) (nm x) (cell_holds c) y p)
-    by y (no q) =
-        at y.0 ∙
-        ap (λ (d : Cell). cell_holds d) (get_or-set_other cells.cells x y.0 c no_cell (λ r. q (λ i. nm (r i)))) ∙
-        sym (upd_other NameIx-discrete (store_in cells) (nm x) (cell_holds c) y q)
+  pub set_store :
+      (x < length cells.kinds) × ((x < length cells.words) × (x < length cells.offsets)) →
+      after.kinds ≡ set cells.kinds x c.kind →
+      after.words ≡ set cells.words x c.word →
+      after.offsets ≡ set cells.offsets x c.offset →
+      store_in after ≡ upd NameIx-discrete (store_in cells) (nm x) (cell_holds c)
+  unfolding store_in set_at
+  set_store h ek ew eo = fun_ext (λ y. by y (NameIx-discrete y (nm x)))
+    where
+      at : (j : ℕ) → store_in after (nm j) ≡ set_at j c.kind c.word c.offset
+      at j = λ i. held_by (get_or (ek i) j nothing_byte) (get_or (ew i) j 0) (get_or (eo i) j 0)
 
--- ---- no cell is set
-pub replicated : (n i : ℕ) → get_or (replicate n no_cell) i no_cell ≡ no_cell
-replicated n i = go (ltb i n) refl
+      by : (y : NameIx) → Dec (y ≡ nm x) → store_in after y ≡ upd NameIx-discrete (store_in cells) (nm x) (cell_holds c) y
+      by y (yes p) =
+          ap (store_in after) p ∙ at x ∙
+          (λ i. held_by (get_or-set_same cells.kinds x c.kind nothing_byte h.0 i) (get_or-set_same cells.words x c.word 0 h.1.0 i)
+          (get_or-set_same cells.offsets x c.offset 0 h.1.1 i)) ∙
+          sym (upd_same NameIx-discrete (store_in cells) (nm x) (cell_holds c) y p)
+      by y (no q) =
+          let other : y.0 ≢ x = λ r. q (λ i. nm (r i)) in
+          at y.0 ∙
+          (λ i. held_by (get_or-set_other cells.kinds x y.0 c.kind nothing_byte other i) (get_or-set_other cells.words x y.0 c.word 0 other i)
+          (get_or-set_other cells.offsets x y.0 c.offset 0 other i)) ∙
+          sym (upd_other NameIx-discrete (store_in cells) (nm x) (cell_holds c) y q)
+
+-- ---- no name is set
+pub replicated : (n i d : ℕ) → get_or (replicate n d) i d ≡ d
+replicated n i d = go (ltb i n) refl
   where
-    go : (b : Bool) → ltb i n ≡ b → get_or (replicate n no_cell) i no_cell ≡ no_cell
-    go true t = get_or-replicate n i no_cell no_cell (ltb-true i n t)
-    go false t = get_or_past (replicate n no_cell) i no_cell (omega (arith, ltb-false i n t, length-replicate n no_cell))
+    go : (b : Bool) → ltb i n ≡ b → get_or (replicate n d) i d ≡ d
+    go true t = get_or-replicate n i d d (ltb-true i n t)
+    go false t = get_or_past (replicate n d) i d (omega (arith, ltb-false i n t, length-replicate n d))

@@ -7,7 +7,8 @@ use mathlib.Core.Logic.{◌≢◌}
 use native.Mathlib.Omega.{arith}
 use lib.ListN.{length, length-append}
 use lib.Dec.{leb, eqb}
-use borrow.Author.Tests.{leb-true, leb-false, ne_eqb}
+use borrow.Author.Tests.{leb-true, leb-false}
+use Rattle.std.specs.Int.{from_bool}
 use Rattle.arith.specs.Value.{Val, int, float, literal, char, bool, pointer}
 use Rattle.record.specs.Write.{be, join}
 use Rattle.record.proofs.Stands.{length_be}
@@ -41,15 +42,15 @@ kind_of_value kind word offset = go (leb kind held) refl
     go false t = ap type_byte (by_pointer kind word offset (leb-false kind held t))
 
 -- ---- the word as it is written
-module _ (kind word : ℕ) (e : kind ≡ 1) where
-  pub word_of_false : word ≡ 0 → be 8 0 ≡ words (plain_from kind word)
-  unfolding words plain_from
-  word_of_false z = sym (λ i. words (plain_from (e i) (z i)))
+bit_is : (b : Bool) → from_bool b ≡ cond b 1 0
+bit_is true = refl
+bit_is false = refl
 
-  pub word_of_true : word ≢ 0 → be 8 1 ≡ words (plain_from kind word)
-  unfolding words plain_from
-  word_of_true n =
-      sym (ap (λ (k : ℕ). words (plain_from k word)) e ∙ ap (λ (b : Bool). be 8 (cond (not b) 1 0)) (ne_eqb word 0 n))
+pub word_of_bool :
+    (kind word : ℕ) → kind ≡ 1 → (r : ℕ) → r ≡ from_bool (not (eqb word 0)) → be 8 r ≡ words (plain_from kind word)
+unfolding words plain_from
+word_of_bool kind word e r h =
+    ap (be 8) (h ∙ bit_is (not (eqb word 0))) ∙ sym (ap (λ (k : ℕ). words (plain_from k word)) e)
 
 pub word_of_plain : (kind word : ℕ) → kind ≢ 1 → be 8 word ≡ words (plain_from kind word)
 unfolding words plain_from
@@ -146,8 +147,8 @@ module _ {l m n : List ℕ} {i : ℕ} (kind word offset : ℕ) where
 
 -- the value of a name, whose cell was read
 pub value_in_wrote :
-    {l m : List ℕ} {i p : ℕ} (cells : Cells) (x : ℕ) (c : Cell) →
+    {N : ℕ} {l m : List ℕ} {i p : ℕ} (cells : Cells N) (x : ℕ) (c : Cell) →
     c ≡ cell_in cells x →
     Wrote l m i p (value_bytes (cell_value c)) →
     Wrote l m i p (value_bytes (value_in cells x))
-value_in_wrote {l} {m} {i} {p} cells x c e w = subst (λ (d : Cell). Wrote l m i p (value_bytes (cell_value d))) e w
+value_in_wrote {N} {l} {m} {i} {p} cells x c e w = subst (λ (d : Cell). Wrote l m i p (value_bytes (cell_value d))) e w

@@ -28,13 +28,10 @@ cell_value c = value_by c.kind c.word c.offset
 abbrev pub cell_holds : Cell → Option Val
 cell_holds c = held_by c.kind c.word c.offset
 
-abbrev pub no_cell : Cell
-no_cell = record { kind = nothing_byte; word = 0; offset = 0 }
-
--- ---- the cells of the names; past the last nothing is held
-module _ (cells : Cells) (x : ℕ) where
+-- ---- the cells of the names, as many as there are; past the last nothing is held
+module _ {N : ℕ} (cells : Cells N) (x : ℕ) where
   abbrev pub cell_in : Cell
-  cell_in = get_or cells.cells x no_cell
+  cell_in = record { kind = get_or cells.kinds x nothing_byte; word = get_or cells.words x 0; offset = get_or cells.offsets x 0 }
 
   abbrev pub kind_in : ℕ
   kind_in = cell_in.kind
@@ -48,7 +45,7 @@ module _ (cells : Cells) (x : ℕ) where
   abbrev pub value_in : Val
   value_in = cell_value cell_in
 
-unfoldable pub store_in : Cells → Store
+unfoldable pub store_in : {N : ℕ} → Cells N → Store
 store_in cells x = cell_holds (cell_in cells x.0)
 
 -- ---- what is held, read at a type: a value of another type counts as not set, as in arith's operations

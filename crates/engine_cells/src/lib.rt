@@ -1,4 +1,5 @@
 // The store of a running function: a cell for each name, and the values of a row of names, measured and written.
+// as: a number that is known to fit, or u64 and usize, which have no From; try_from would hand out an error that cannot be.
 #![tactic(auto)]
 
 ghost use Rattle.std.specs.Prelude.{◌≡◌, cond, ℕ, ◌+◌, ◌*◌, ◌<◌, ◌≤◌, leb};
@@ -15,21 +16,27 @@ ghost use Rattle.read_fields.specs.Places.{places};
 ghost use Rattle.write_bytes.specs.Put.{Wrote};
 ghost use Rattle.engine_cells.specs.Cells.{cell_holds, cell_in, int_held, bool_held, value_in, store_in, row_from, size_of, RowWritten};
 
-// The type bytes of int and bool and of an int literal held by a float, which is the last without a pointer; and nothing: the house form's
-// own bytes.
+// The type bytes of int, bool and char, and of an int literal held by a float, which is the last without a pointer; the least of a pointer;
+// and nothing: the house form's own bytes.
 pub const INT: u8 = 0x00;
 
 pub const BOOL: u8 = 0x01;
 
+pub const CHAR: u8 = 0x03;
+
 pub const HELD: u8 = 0x04;
+
+pub const POINTER: u8 = 0x10;
 
 pub const NOTHING: u8 = 0xFF;
 
 // As many names as a record can have.
 pub const NAMES: usize = 256;
 
-// What a name holds: the type byte of its value, or that of nothing; its word, or a pointer's base; and a pointer's offset.
-#[derive(Clone, Copy)]
+// What a name holds: the type byte of its value, or that of nothing; its word, or a pointer's base; and a pointer's offset. The kind stays a
+// byte: an enum of kinds would be made at each read of a cell and taken apart at each write, since the store has its parts in arrays of their
+// own (an array of whole cells took 1.38 times as long in a loop of arithmetic).
+#[derive(Clone, Copy, PartialEq, Eq, Debug)]
 pub struct Cell {
     pub kind: u8,
     pub word: u64,
@@ -61,7 +68,7 @@ impl Cell {
 }
 
 // The cell of a name that holds nothing.
-const NO_CELL: Cell = Cell {
+pub const NO_CELL: Cell = Cell {
     kind: NOTHING,
     word: 0,
     offset: 0,
@@ -80,26 +87,31 @@ fn written_word(kind: u8, word: u64) -> u64
     ensures { be 8 result ≡ words (plain_from kind word) }
 {
     if kind == BOOL {
-        if word == 0 { 0 } else { 1 }
+        u64::from(word != 0)
     } else {
         word
     }
 }
 
 // ---- the store
-// What the names of a function hold.
+// What the first N names of a function hold; those past them hold nothing. Each part of the cells stands in an array of its own, so that it
+// is read and written alone: a whole cell waits for the byte of its kind where that was just written, and has bytes of no use behind it.
 #[derive(Clone, Copy)]
-pub struct Cells {
-    cells: [Cell; NAMES],
+pub struct Cells<const N: usize> {
+    kinds: [u8; N],
+    words: [u64; N],
+    offsets: [u64; N],
 }
 
-impl Cells {
+impl<const N: usize> Cells<N> {
     // No name is set.
-    pub fn new() -> Cells
+    pub fn new() -> Cells<N>
         ensures { (x : NameIx) → store_in result x ≡ none }
     {
         Cells {
-            cells: [NO_CELL; NAMES],
+            kinds: [NOTHING; N],
+            words: [0; N],
+            offsets: [0; N],
         }
     }
 
@@ -107,8 +119,14 @@ impl Cells {
     pub fn get(&self, x: u64) -> Cell
         ensures { result ≡ cell_in self.now x }
     {
-        if x < NAMES as u64 {
-            self.cells[x as usize]
+        // One test for the three arrays: get would test at each.
+        if x < N as u64 {
+            let i = x as usize;
+            Cell {
+                kind: self.kinds[i],
+                word: self.words[i],
+                offset: self.offsets[i],
+            }
         } else {
             NO_CELL
         }
@@ -119,7 +137,7 @@ impl Cells {
         ensures { result ≡ int_held (store_in self.now (nm x)) }
     {
         let c = self.get(x);
-        if c.kind == INT { Some(c.word) } else { None }
+        (c.kind == INT).then_some(c.word)
     }
 
     // The bool that a name holds.
@@ -127,24 +145,23 @@ impl Cells {
         ensures { result ≡ bool_held (store_in self.now (nm x)) }
     {
         let c = self.get(x);
-        if c.kind == BOOL {
-            Some(c.word != 0)
-        } else {
-            None
-        }
+        (c.kind == BOOL).then_some(c.word != 0)
     }
 
     // A name given what a cell holds.
     pub fn set_cell(&mut self, x: u64, c: Cell)
-        requires { x < 256 }
+        requires { x < N }
         ensures { store_in self.new ≡ upd NameIx-discrete (store_in self.old) (nm x) (cell_holds c) }
     {
-        self.cells[x as usize] = c;
+        let i = x as usize;
+        self.kinds[i] = c.kind;
+        self.words[i] = c.word;
+        self.offsets[i] = c.offset;
     }
 
     // A name given a value that is no pointer.
     pub fn set_plain(&mut self, x: u64, kind: u8, word: u64)
-        requires { (x < 256) × (kind ≤ held) }
+        requires { (x < N) × (kind ≤ held) }
         ensures { store_in self.new ≡ upd NameIx-discrete (store_in self.old) (nm x) (some (plain_from kind word)) }
     {
         self.set_cell(
@@ -173,7 +190,7 @@ impl Cells {
         at + 17
     }
 
-    // ---- rows of names: n indexes of two bytes from a place of the record on
+    // ---- rows of names: n indexes of two bytes from a place of the record on, each read by its place, since bytes past the end count as 0
     // How many bytes their values have, if each is set.
     pub fn row_size(&self, s: &[u8], at: usize, n: u64) -> Option<usize>
         requires { (at + 2 * n < places) × (n ≤ 255) }

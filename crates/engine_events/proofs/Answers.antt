@@ -1,93 +1,32 @@
--- The world's answers: what one is by its first byte and the cell read of it, the answers left, and what an answer does to the run.
-use Prim.Native.Nat.{ℕ, ◌+◌, ◌-◌, ◌%◌, ◌<◌, ◌≤◌}
+-- The world's answers: whether one fits, the answers left, and what an answer does to the run.
+use Prim.Native.Nat.{ℕ, ◌-◌, ◌<◌, ◌≤◌}
 use mathlib.Core.Path.{◌≡◌, refl, sym, ap, ◌∙◌, subst}
-use mathlib.Core.Logic.{◌≢◌, ◌⊎◌, inl, inr, ⊎_elim}
+use mathlib.Core.Logic.{◌≢◌}
 use mathlib.Core.List.{List, [], ◌∷◌, ◌++◌}
-use mathlib.Core.Bool.{Bool, true, false, cond}
-use mathlib.Core.Option.{Option, some}
-use native.Mathlib.Omega.{arith}
-use lib.Dec.{leb, eqb}
+use mathlib.Core.Bool.{Bool, true, false}
+use mathlib.Core.Option.{Option}
+use lib.Dec.{leb, ltb}
 use lib.ListN.{get_or}
-use borrow.Author.Tests.{eq-eqb, ne_eqb, eqb-true, eqb-false, leb-true, leb-false, lt-leb, le-leb, lt-ltb, le-ltb}
+use borrow.Author.Tests.{ltb-true, ltb-false, lt-leb, le-leb, lt-ltb, le-ltb}
 use Rattle.arith.specs.Map.{upd}
-use Rattle.arith.specs.Value.{Val, pointer, is_pointer, has_type}
+use Rattle.arith.specs.Value.{Val, has_type}
 use Rattle.arith.proofs.Clash.{clash}
 use Rattle.record.specs.declared.NameIx.{NameIx}
 use Rattle.record.specs.Record.{nm, NameIx-discrete, Instr, type_in}
 use Rattle.record.specs.Reader.{num_at}
 use Rattle.record.specs.Decode.{items, index_from}
-use Rattle.record.proofs.Tests.{or_second}
 use Rattle.record.proofs.Rows.{one_more}
 use Rattle.machine.specs.Machine.{Store, Answer, value, go_on, halt, Event, at_halt, Mach, goes, ends, assign, happens, take_value, answered, acknowledged}
-use Rattle.running.specs.House.{held, nothing_byte, go_on_byte, halt_byte, value_type}
-use Rattle.running.specs.Items.{plain_from, behind_type, answer_from, answer_end}
+use Rattle.running.specs.House.{nothing_byte}
+use Rattle.running.specs.Items.{answer_from, answer_end}
 use Rattle.running.specs.Engine.{fits_value, fits_effect}
 use Rattle.engine_cells.specs.declared.Cell.{Cell}
-use Rattle.engine_cells.specs.Cells.{value_by, cell_value, cell_holds}
-use Rattle.engine_cells.proofs.Store.{by_plain, by_pointer, held_some}
-use Rattle.engine_house.specs.Reads.{Sure, end_by}
+use Rattle.engine_cells.specs.Cells.{cell_value, cell_holds}
+use Rattle.engine_cells.proofs.Store.{held_some}
+use Rattle.engine_house.specs.declared.Answer.{Answer as Told}
+use Rattle.engine_house.specs.declared.Answer.TheVariants.{GoOn, Halt, Value}
+use Rattle.engine_house.specs.Reads.{Sure, answer_of}
 use Rattle.engine_events.specs.Replies.{has_dest, reply, fits_reply, given, Known}
-
--- ---- an answer by its first byte
-module _ (s : List ℕ) (at : ℕ) where
-  abbrev first : ℕ
-  first = num_at s at 1
-
-  answer_go_on : first ≡ go_on_byte → answer_from s at ≡ go_on
-  unfolding answer_from
-  answer_go_on e = rw (eq-eqb first go_on_byte e)
-
-  pub answer_halt : first ≡ halt_byte → answer_from s at ≡ halt
-  unfolding answer_from
-  answer_halt e = rw (ne_eqb first go_on_byte (λ f. omega (arith, e, f)), eq-eqb first halt_byte e)
-
-  answer_value : first ≢ go_on_byte → first ≢ halt_byte → answer_from s at ≡ value (behind_type first s (at + 1))
-  unfolding answer_from
-  answer_value g h = rw (ne_eqb first go_on_byte g, ne_eqb first halt_byte h)
-
-  pub end_is : end_by first at ≡ answer_end s at
-  unfolding answer_end
-  end_is = refl
-
-  pub not_halt : first ≢ halt_byte → answer_from s at ≢ halt
-  not_halt h e = go (eqb first go_on_byte) refl
-    where
-      go : (b : Bool) → eqb first go_on_byte ≡ b → ⊥
-      go true f = let d : go_on ≡ halt = sym (answer_go_on (eqb-true first go_on_byte f)) ∙ e in clash (cc d)
-      go false f =
-          let d : value (behind_type first s (at + 1)) ≡ halt = sym (answer_value (eqb-false first go_on_byte f) h) ∙ e in clash (cc d)
-
--- ---- the cell read of a value
--- type bytes to 04 are no pointers', those from 10 on are
-type_bytes : (x : ℕ) → value_type x ≡ true → (x ≤ 4) ⊎ (16 ≤ x)
-type_bytes x e = go (eqb x held) refl
-  where
-    go : (b : Bool) → eqb x held ≡ b → (x ≤ 4) ⊎ (16 ≤ x)
-    go true f = inl (omega (arith, eqb-true x held f))
-    go false f = low (leb x 4) refl
-      where
-        m : x % 16 ≤ 3
-        m = leb-true (x % 16) 3 (or_second (eqb x held) (leb (x % 16) 3) e f)
-
-        low : (b : Bool) → leb x 4 ≡ b → (x ≤ 4) ⊎ (16 ≤ x)
-        low true g = inl (leb-true x 4 g)
-        low false g = inr (omega (arith, leb-false x 4 g, m))
-
-module _ (x word offset : ℕ) (t : value_type x ≡ true) where
-  cell_set : x ≢ nothing_byte
-  cell_set e =
-      ⊎_elim (λ (a : x ≤ 4). absurd (omega (arith, a, e)))
-      (λ (a : 16 ≤ x). let m : leb (255 % 16) 3 ≡ true = ap (λ (k : ℕ). leb (k % 16) 3) (sym e) ∙ or_second (eqb x held) (leb (x % 16) 3) t (ne_eqb x held (λ f. omega (arith, e, f))) in clash (cc m))
-      (type_bytes x t)
-
-  cell_by : value_by x word offset ≡ cond (is_pointer x) (pointer x word offset) (plain_from x word)
-  cell_by =
-      ⊎_elim
-      (λ (a : x ≤ 4). by_plain x word offset a ∙
-      sym (ap (λ (b : Bool). cond b (pointer x word offset) (plain_from x word)) (lt-leb 16 x (omega (arith, a)))))
-      (λ (a : 16 ≤ x). by_pointer x word offset (omega (arith, a)) ∙
-      sym (ap (λ (b : Bool). cond b (pointer x word offset) (plain_from x word)) (le-leb 16 x a)))
-      (type_bytes x t)
 
 -- ---- dest, whose index x stands at a place
 pub dest_type : (types s : List ℕ) (at x r : ℕ) → x ≡ num_at s at 2 → r ≡ get_or types x 0 → r ≡ type_in types (index_from s at)
@@ -99,55 +38,50 @@ unfolding index_from
 dest_name s at x e = ap nm e
 
 -- ---- what takes says; ty: the type of dest
-module _ (s : List ℕ) (at code ty : ℕ) (σ : Store) (d : NameIx) where
-  abbrev byte : ℕ
-  byte = num_at s at 1
+module _ (code ty : ℕ) (σ : Store) (d : NameIx) where
+  abbrev Fits : Told → Bool
+  Fits x = fits_reply (has_dest code) ty (answer_of x ∷ [])
 
-  -- without a dest: go on alone
-  pub takes_effect :
-      64 ≤ code → byte ≢ halt_byte →
-      (eqb byte go_on_byte ≡ fits_reply (has_dest code) ty (answer_from s at ∷ [])) ×
-      (eqb byte go_on_byte ≡ true → σ ≡ given (has_dest code) (answer_from s at) σ d)
-  unfolding fits_reply fits_effect given
-  takes_effect c h =
-      let n : has_dest code ≡ false = le-ltb code 64 c in (
-        fits (eqb byte go_on_byte) refl ∙ ap (λ (b : Bool). fits_reply b ty (answer_from s at ∷ [])) (sym n),
-        λ e. ap (λ (b : Bool). given b (answer_from s at) σ d) (sym n),
-      )
+  abbrev after : Told → Store
+  after x = given (has_dest code) (answer_of x) σ d
+
+  -- go on alone is for what has no dest
+  pub takes_go_on : (leb 64 code ≡ Fits GoOn) × (leb 64 code ≡ true → σ ≡ after GoOn)
+  unfolding fits_reply fits_value fits_effect given
+  takes_go_on = go (ltb code 64) refl
     where
-      fits : (b : Bool) → eqb byte go_on_byte ≡ b → b ≡ fits_effect (answer_from s at ∷ [])
-      fits true f = sym (ap (λ (x : Answer). fits_effect (x ∷ [])) (answer_go_on s at (eqb-true byte go_on_byte f)))
-      fits false f = sym (ap (λ (x : Answer). fits_effect (x ∷ [])) (answer_value s at (eqb-false byte go_on_byte f) h))
+      go :
+          (b : Bool) → ltb code 64 ≡ b →
+          (leb 64 code ≡ fits_reply b ty (go_on ∷ [])) × (leb 64 code ≡ true → σ ≡ given b go_on σ d)
+      go true e = (lt-leb 64 code (ltb-true code 64 e), λ _. refl)
+      go false e = (le-leb 64 code (ltb-false code 64 e), λ _. refl)
 
-  module _ (c : code < 64) where
-    has : has_dest code ≡ true
-    has = lt-ltb code 64 c
+  pub takes_halt : (true ≡ Fits Halt) × (true ≡ true → σ ≡ after Halt)
+  unfolding fits_reply fits_value fits_effect given
+  takes_halt = go (ltb code 64)
+    where
+      go : (b : Bool) → (true ≡ fits_reply b ty (halt ∷ [])) × (true ≡ true → σ ≡ given b halt σ d)
+      go true = (refl, λ _. refl)
+      go false = (refl, λ _. refl)
 
-    pub takes_none : byte ≡ go_on_byte → false ≡ fits_reply (has_dest code) ty (answer_from s at ∷ [])
-    unfolding fits_reply fits_value
-    takes_none e = sym (λ i. fits_reply (has i) ty (answer_go_on s at e i ∷ []))
+  module _ (c : Cell) where
+    pub takes_none : 64 ≤ code → false ≡ Fits (Value c)
+    unfolding fits_reply fits_effect
+    takes_none h = sym (ap (λ (b : Bool). fits_reply b ty (value (cell_value c) ∷ [])) (le-ltb code 64 h))
 
-    module _ (k : Known byte) (g : byte ≢ go_on_byte) (h : byte ≢ halt_byte) (x : Cell)
-        (ex : x ≡ record { kind = byte; word = num_at s (at + 1) 8; offset = num_at s (at + 1 + 8) 8 }) where
-      typed : value_type byte ≡ true
-      typed = or_second (eqb byte halt_byte) _ (or_second (eqb byte go_on_byte) _ k (ne_eqb byte go_on_byte g)) (ne_eqb byte halt_byte h)
+    module _ (l : code < 64) where
+      has : has_dest code ≡ true
+      has = lt-ltb code 64 l
 
-      cell_answer : answer_from s at ≡ value (cell_value x)
-      cell_answer =
-          answer_value s at g h ∙ ap value (sym (cell_by byte (num_at s (at + 1) 8) (num_at s (at + 1 + 8) 8) typed)) ∙
-          ap (λ (y : Cell). value (cell_value y)) (sym ex)
-
-      pub takes_fits : fits_reply (has_dest code) ty (answer_from s at ∷ []) ≡ has_type ty (cell_value x)
+      pub takes_fits : Fits (Value c) ≡ has_type ty (cell_value c)
       unfolding fits_reply fits_value
-      takes_fits = λ i. fits_reply (has i) ty (cell_answer i ∷ [])
+      takes_fits = ap (λ (b : Bool). fits_reply b ty (value (cell_value c) ∷ [])) has
 
-      pub takes_sets : upd NameIx-discrete σ d (cell_holds x) ≡ given (has_dest code) (answer_from s at) σ d
+      pub takes_sets : c.kind ≢ nothing_byte → upd NameIx-discrete σ d (cell_holds c) ≡ after (Value c)
       unfolding given
-      takes_sets =
-          let f : cell_holds x ≡ some (cell_value x) =
-          ap cell_holds ex ∙ held_some byte (num_at s (at + 1) 8) (num_at s (at + 1 + 8) 8) (cell_set byte 0 0 typed) ∙
-          ap (λ (y : Cell). some (cell_value y)) (sym ex) in
-          ap (λ (o : Option Val). upd NameIx-discrete σ d o) f ∙ sym (λ i. given (has i) (cell_answer i) σ d)
+      takes_sets n =
+          ap (λ (o : Option Val). upd NameIx-discrete σ d o) (held_some c.kind c.word c.offset n) ∙
+          sym (ap (λ (b : Bool). given b (value (cell_value c)) σ d) has)
 
 -- ---- the answers left
 module _ (list : List ℕ) (at n : ℕ) where

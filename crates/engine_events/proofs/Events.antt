@@ -133,7 +133,7 @@ module _ {s : List ℕ} {at : ℕ} (h : Loud s at) where
     args_by = λ i. row_from s (er i + 1) (count_is i)
 
     pub event_put :
-        (cells : Cells) (l : List ℕ) {a b c d : List ℕ} (m : List ℕ) (w to id code callee : ℕ) →
+        (cells : Cells 256) (l : List ℕ) {a b c d : List ℕ} (m : List ℕ) (w to id code callee : ℕ) →
         w ≡ id_width s →
         id ≡ num_at s at w →
         code ≡ num_at s (at + w) 1 →

@@ -1,6 +1,6 @@
 -- The operands of an instruction with an event: what stands where, by its code alone, and its form.
 use Prim.Native.Nat.{ℕ, ◌+◌, ◌*◌, ◌<◌, ◌≤◌}
-use mathlib.Core.Path.{◌≡◌, refl, sym, ap, ◌∙◌}
+use mathlib.Core.Path.{◌≡◌, refl, sym, ap, ◌∙◌, subst}
 use mathlib.Core.List.{List}
 use mathlib.Core.Bool.{Bool, true, false, cond, not, ◌&&◌, ◌||◌}
 use mathlib.Core.Option.{Option, none, some}
@@ -21,10 +21,11 @@ use Rattle.record.proofs.Form.{all_below, at_known}
 use Rattle.engine_cells.specs.Cells.{row_from}
 use Rattle.engine_quiet.specs.declared.Ground.{Ground}
 use Rattle.engine_quiet.specs.declared.Spot.{Spot}
-use Rattle.engine_quiet.specs.Spot.{Standing, quiet, code_at}
+use Rattle.engine_quiet.specs.Spot.{Before, Standing, quiet, code_at}
 use Rattle.engine_quiet.proofs.Bodies.{first_passes, first_inside}
 use Rattle.engine_quiet.proofs.Operands as shape
-use Rattle.engine_events.specs.Turn.{instr_at, count_place, args_at, Loud}
+use Rattle.engine_events.specs.declared.Turn.{Turn}
+use Rattle.engine_events.specs.Turn.{instr_at, count_place, args_at, Going, Loud}
 use Rattle.engine_events.specs.Replies.{has_dest, has_callee}
 
 -- ---- tables of the codes
@@ -176,10 +177,14 @@ module _ {s : List ℕ} {at : ℕ} (h : Loud s at) where
       (λ i. form_by (shape.code_is w s at i) (args_are i))
 
 -- ---- the instruction at which a run stands
-pub stands_loud : {g : Ground} {p : Spot} → Standing g p → 0 < p.left → quiet (code_at g.s.now p.at) ≡ false → Loud g.s.now p.at
-stands_loud {g} {p} st left q =
+pub stands : {g : Ground} {p : Spot} {t : Turn} → Going g p t → Before g p
+stands {g} h = subst (Standing g) h.here h.ready.standing
+
+pub stands_loud : {g : Ground} {p : Spot} {t : Turn} → Going g p t → quiet (code_at g.s.now p.at) ≡ false → Loud g.s.now p.at
+stands_loud {g} {p} h q =
+    let st = stands h in
     record {
-      passes = first_passes g.s.now p.at p.left st.sound left;
+      passes = first_passes g.s.now p.at p.left st.sound st.some;
       loud = q;
-      inside = first_inside g.s.now p.at p.left st.sound left;
+      inside = first_inside g.s.now p.at p.left st.sound st.some;
     }

@@ -20,17 +20,19 @@ use Rattle.running.specs.Steps.{moved, take_step}
 use Rattle.running.specs.Engine.{fits_new, fits_told, fits_form, fits_at}
 use Rattle.write_bytes.specs.Put.{Wrote}
 use Rattle.write_bytes.proofs.Wrote.{wrote_nothing, wrote_last}
-use Rattle.std.proofs.Common.{Option as CodeOption, None, Some}
+use Rattle.std.proofs.Common.{Option as CodeOption, None, Some, Result}
 use Rattle.engine_cells.specs.declared.Cells.{Cells}
 use Rattle.engine_cells.specs.Cells.{store_in}
 use Rattle.engine_quiet.specs.declared.Ground.{Ground}
+use Rattle.engine_quiet.specs.declared.Over.{Over}
 use Rattle.engine_quiet.specs.declared.Over.TheVariants.{Ret, Unset}
+use Rattle.engine_quiet.specs.declared.Spot.{Spot}
 use Rattle.engine_quiet.specs.Spot.{stop_by, told_types, blocks_of, body_at, stand_of, code_at}
 use Rattle.engine_quiet.proofs.Moved.{fits_here, takes_here}
 use Rattle.engine_events.specs.declared.Turn.{Turn}
-use Rattle.engine_events.specs.Turn.{most_event, far, config_in, events_ahead, instr_at, args_at, Ready, Going, Loud, EventAs, Stepped}
+use Rattle.engine_events.specs.Turn.{most_event, far, config_in, ahead_of, events_ahead, instr_at, args_at, Ready, Going, Loud, EventAs, Stepped}
 use Rattle.engine_events.specs.Replies.{has_dest, reply, fits_reply, Answered}
-use Rattle.engine_events.proofs.Operands.{form_by, form_is}
+use Rattle.engine_events.proofs.Operands.{form_by, form_is, stands}
 use Rattle.engine_events.proofs.Over.{over_turn, ready_over, over_told, over_silent}
 
 -- ---- what tell_event says
@@ -103,7 +105,7 @@ module _ (types : List ℕ) (i : Instr) (m : Mach) (args : List NameIx) where
     fits_is false = ap (fits_told m.answers) e
 
 -- ---- the step of a run
-module _ (g : Ground) (cells : Cells) (l : List ℕ) (t : Turn) (going : Going g t) (loud : Loud g.s.now t.spot.at) where
+module _ (g : Ground) (cells : Cells 256) (l : List ℕ) (p : Spot) (t : Turn) (going : Going g p t) (loud : Loud g.s.now p.at) where
   abbrev s : List ℕ
   s = g.s.now
 
@@ -113,11 +115,11 @@ module _ (g : Ground) (cells : Cells) (l : List ℕ) (t : Turn) (going : Going g
   abbrev ready : Ready g t
   ready = going.ready
 
-  abbrev left : 0 < t.spot.left
-  left = going.some
+  abbrev left : 0 < p.left
+  left = (stands going).some
 
   abbrev at : ℕ
-  at = t.spot.at
+  at = p.at
 
   abbrev i : Instr
   i = instr_at s at
@@ -126,28 +128,29 @@ module _ (g : Ground) (cells : Cells) (l : List ℕ) (t : Turn) (going : Going g
   mach = (config_in g cells t).mach
 
   abbrev rest : List Instr
-  rest = body_at s (instr_end (id_width s) s at) (t.spot.left - 1)
+  rest = body_at s (instr_end (id_width s) s at) (p.left - 1)
 
   abbrev values : Option (List Val)
   values = read_all (store_in cells) (args_at s at)
 
   takes_is :
       take_step (told_types types) (blocks_of g) (config_in g cells t) ≡
-      moved (blocks_of g) t.spot.block rest (act (told_types types) i (tick mach) (form_by (code_at s at) (args_at s at)))
+      moved (blocks_of g) p.block rest (act (told_types types) i (tick mach) (form_by (code_at s at) (args_at s at)))
   takes_is =
-      takes_here s t.spot left (told_types types) (blocks_of g) mach ∙
-      ap (λ (f : Form). moved (blocks_of g) t.spot.block rest (act (told_types types) i (tick mach) f)) (form_is loud (type_in types))
+      ap (λ (r : Result Spot Over). take_step (told_types types) (blocks_of g) (record { stand = stand_of s r; mach = mach })) going.here ∙
+      takes_here s p left (told_types types) (blocks_of g) mach ∙
+      ap (λ (f : Form). moved (blocks_of g) p.block rest (act (told_types types) i (tick mach) f)) (form_is loud (type_in types))
 
   fits_by :
       fits_at (told_types types) mach (stand_of s t.spot) ≡ fits_form (told_types types) i mach (form_by (code_at s at) (args_at s at))
   fits_by =
-      fits_here s t.spot left (told_types types) (blocks_of g) mach ∙
+      ap (λ (r : Result Spot Over). fits_at (told_types types) mach (stand_of s r)) going.here ∙
+      fits_here s p left (told_types types) (blocks_of g) mach ∙
       ap (fits_form (told_types types) i mach) (form_is loud (type_in types))
 
   room : t.event + most_event * suc t.answers ≤ far
   room =
-      let e : events_ahead t ≡ suc t.answers =
-      ap (λ (b : Bool). cond b 0 (suc t.answers)) (ne_eqb t.spot.left 0 (λ z. absurd (omega (arith, left, z)))) in
+      let e : events_ahead t ≡ suc t.answers = ap (λ (r : Result Spot Over). ahead_of r t.answers) going.here in
       subst (λ (n : ℕ). t.event + most_event * n ≤ far) e ready.events
 
   -- an argument is not set
@@ -155,7 +158,7 @@ module _ (g : Ground) (cells : Cells) (l : List ℕ) (t : Turn) (going : Going g
   unfolding stop_by events_bytes join
   step_unset e =
       record {
-        ready = ready_over g Unset t.event t.answer t.answers t ready.standing left ready.sure ready.answers (omega (arith, room));
+        ready = ready_over g Unset t.event t.answer t.answers t ready.sure ready.answers (omega (arith, room));
         more = refl;
         tells = refl;
         unfit = λ z. absurd (cc z);
@@ -165,9 +168,9 @@ module _ (g : Ground) (cells : Cells) (l : List ℕ) (t : Turn) (going : Going g
               fits = fits_by ∙ fits_unset types i mach (args_at s at) (has_dest (code_at s at)) (eqb (code_at s at) 66) e;
               takes =
                   takes_is ∙
-                  ap (moved (blocks_of g) t.spot.block rest)
+                  ap (moved (blocks_of g) p.block rest)
                   (act_unset types i mach (args_at s at) (has_dest (code_at s at)) (eqb (code_at s at) 66) e) ∙
-                  over_silent g cells t.spot.block rest Unset t.event t.answer t.answers t refl;
+                  over_silent g cells p.block rest Unset t.event t.answer t.answers t refl;
               wrote = wrote_nothing;
             };
       }
@@ -190,7 +193,7 @@ module _ (g : Ground) (cells : Cells) (l : List ℕ) (t : Turn) (going : Going g
         let f : form_by (code_at s at) (args_at s at) ≡ return (args_at s at) = ap (λ (k : ℕ). form_by k (args_at s at)) c in
         record {
           ready =
-              ready_over g Ret place t.answer t.answers t ready.standing left ready.sure ready.answers (omega (arith, room_left));
+              ready_over g Ret place t.answer t.answers t ready.sure ready.answers (omega (arith, room_left));
           more = refl;
           tells = refl;
           unfit = λ z. absurd (cc z);
@@ -202,16 +205,16 @@ module _ (g : Ground) (cells : Cells) (l : List ℕ) (t : Turn) (going : Going g
                     fits_ret types i mach (args_at s at) told.values told.read;
                 takes =
                     takes_is ∙
-                    ap (λ (u : Form). moved (blocks_of g) t.spot.block rest (act (told_types types) i (tick mach) u)) f ∙
-                    ap (moved (blocks_of g) t.spot.block rest) (act_ret types i mach (args_at s at) told.values told.read) ∙
-                    over_told g cells t.spot.block rest Ret place t.answer t.answers t event;
+                    ap (λ (u : Form). moved (blocks_of g) p.block rest (act (told_types types) i (tick mach) u)) f ∙
+                    ap (moved (blocks_of g) p.block rest) (act_ret types i mach (args_at s at) told.values told.read) ∙
+                    over_told g cells p.block rest Ret place t.answer t.answers t event;
                 wrote = wrote_one;
               };
         }
 
     -- the others, by what the answer comes to
     pub step_told :
-        (after : Cells) (r : Turn) → code_at s at ≢ 66 → Answered g cells after place t r →
+        (after : Cells 256) (r : Turn) → code_at s at ≢ 66 → Answered g cells after place p t r →
         Stepped g cells after l m t r
     step_told after r c a =
         let f : form_by (code_at s at) (args_at s at) ≡ cond (has_dest (code_at s at)) (new (args_at s at)) (effect (args_at s at)) =
@@ -223,15 +226,15 @@ module _ (g : Ground) (cells : Cells) (l : List ℕ) (t : Turn) (going : Going g
           ready = a.ready;
           more = a.more;
           tells = a.tells;
-          unfit = λ z. (fits ∙ (a.unfit z).0, (a.unfit z).1);
+          unfit = λ z. fits ∙ a.unfit z;
           fit = λ n.
               record {
                 added = event ∷ [];
                 fits = fits ∙ (a.fit n).fits;
                 takes =
                     takes_is ∙
-                    ap (λ (u : Form). moved (blocks_of g) t.spot.block rest (act (told_types types) i (tick mach) u)) f ∙
-                    ap (moved (blocks_of g) t.spot.block rest)
+                    ap (λ (u : Form). moved (blocks_of g) p.block rest (act (told_types types) i (tick mach) u)) f ∙
+                    ap (moved (blocks_of g) p.block rest)
                     (act_told types i mach (args_at s at) told.values told.read (has_dest (code_at s at))) ∙
                     (a.fit n).goes event;
                 wrote = subst (λ (p : ℕ). Wrote l m t.event p (events_bytes (id_width s) (event ∷ []))) (sym a.told) wrote_one;

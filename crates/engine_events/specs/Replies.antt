@@ -1,5 +1,5 @@
 -- The world's answer to an event that was told: whether it fits, what it does to the store, and where the run is then.
-use Rattle.std.specs.Prelude.{ℕ, ◌+◌, ◌-◌, ◌<◌, ◌≤◌, List, [], ◌∷◌, Bool, true, false, ◌||◌, ◌≡◌, ◌≢◌, ltb, eqb}
+use Rattle.std.specs.Prelude.{ℕ, ◌+◌, ◌-◌, ◌<◌, ◌≤◌, List, [], ◌∷◌, Bool, true, false, ◌||◌, ◌≡◌, ◌≢◌, ltb, eqb, Err}
 use Rattle.std.proofs.Math.Option.{some}
 use Rattle.arith.specs.Map.{upd}
 use Rattle.record.specs.declared.NameIx.{NameIx}
@@ -14,6 +14,7 @@ use Rattle.read_fields.specs.Places.{places}
 use Rattle.engine_cells.specs.declared.Cells.{Cells}
 use Rattle.engine_quiet.specs.declared.Ground.{Ground}
 use Rattle.engine_quiet.specs.declared.Over.TheVariants.{Unfit}
+use Rattle.engine_quiet.specs.declared.Spot.{Spot}
 use Rattle.engine_quiet.specs.Spot.{body_at, blocks_of, code_at}
 use Rattle.engine_events.specs.declared.Turn.{Turn}
 use Rattle.engine_events.specs.Turn.{answers_left, config_in, instr_at, Ready}
@@ -52,30 +53,30 @@ Near s w at row = (w ≤ 8) × ((at + 16 < places) × ((row + 32 < places) × (n
 abbrev pub Known : ℕ → Type 0
 Known b = (eqb b go_on_byte || (eqb b halt_byte || value_type b)) ≡ true
 
--- ---- the step once its event is told, at the instruction at which the run t stands
+-- ---- the step once its event is told, at the instruction p at which the run t stands
 -- whether the answer fits
-abbrev pub reply_fits : Ground → Turn → Bool
-reply_fits g t =
-    fits_reply (has_dest (code_at g.s.now t.spot.at)) (type_in g.types.now (instr_at g.s.now t.spot.at).dest) (answers_left g.list.now t)
+abbrev pub reply_fits : Ground → Spot → Turn → Bool
+reply_fits g p t =
+    fits_reply (has_dest (code_at g.s.now p.at)) (type_in g.types.now (instr_at g.s.now p.at).dest) (answers_left g.list.now t)
 
 -- where it leads
-abbrev pub replied : Ground → Cells → Turn → Event → Config
-replied g before t e =
-    moved (blocks_of g) t.spot.block
-    (body_at g.s.now (instr_end (id_width g.s.now) g.s.now t.spot.at) (t.spot.left - 1))
-    (reply (has_dest (code_at g.s.now t.spot.at)) (type_in g.types.now (instr_at g.s.now t.spot.at).dest) (instr_at g.s.now t.spot.at)
+abbrev pub replied : Ground → Cells 256 → Spot → Turn → Event → Config
+replied g before p t e =
+    moved (blocks_of g) p.block
+    (body_at g.s.now (instr_end (id_width g.s.now) g.s.now p.at) (p.left - 1))
+    (reply (has_dest (code_at g.s.now p.at)) (type_in g.types.now (instr_at g.s.now p.at).dest) (instr_at g.s.now p.at)
     (tick (config_in g before t).mach) e (answers_left g.list.now t))
 
 -- it fits, and the run is at r, whatever the event was
-pub record Replies (g : Ground) (before after : Cells) (t r : Turn) : Type 0 where
-  pub fits : reply_fits g t ≡ true
-  pub goes : (e : Event) → replied g before t e ≡ shifted (e ∷ []) 1 (config_in g after r)
+pub record Replies (g : Ground) (before after : Cells 256) (p : Spot) (t r : Turn) : Type 0 where
+  pub fits : reply_fits g p t ≡ true
+  pub goes : (e : Event) → replied g before p t e ≡ shifted (e ∷ []) 1 (config_in g after r)
 
 -- from t to r, whose events end at a place; or the answer does not fit
-pub record Answered (g : Ground) (before after : Cells) (event : ℕ) (t r : Turn) : Type 0 where
+pub record Answered (g : Ground) (before after : Cells 256) (event : ℕ) (p : Spot) (t r : Turn) : Type 0 where
   pub ready : Ready g r
   pub more : r.more ≡ t.more
   pub tells : r.tells ≡ t.tells
   pub told : r.event ≡ event
-  pub unfit : r.spot.stop ≡ Unfit → (reply_fits g t ≡ false) × (r.spot.left ≡ 0)
-  pub fit : r.spot.stop ≢ Unfit → Replies g before after t r
+  pub unfit : r.spot ≡ Err Unfit → reply_fits g p t ≡ false
+  pub fit : r.spot ≢ Err Unfit → Replies g before after p t r

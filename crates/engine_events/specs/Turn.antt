@@ -1,5 +1,5 @@
 -- A run between two steps as the code has it, and what a step does to it: the machine's step, with the events that it adds written out.
-use Rattle.std.specs.Prelude.{ℕ, suc, ◌+◌, ◌*◌, ◌<◌, ◌≤◌, List, true, false, cond, ◌≡◌, ◌≢◌, ltb, eqb, length, Option as CodeOption, None, Some}
+use Rattle.std.specs.Prelude.{ℕ, suc, ◌+◌, ◌*◌, ◌≤◌, List, true, false, cond, ◌≡◌, ◌≢◌, ltb, length, Option as CodeOption, None, Some, Result, Ok, Err}
 use Rattle.std.proofs.Math.Option.{Option, none, some}
 use Rattle.arith.specs.Value.{Val}
 use Rattle.record.specs.declared.NameIx.{NameIx}
@@ -17,7 +17,9 @@ use Rattle.engine_cells.specs.declared.Cells.{Cells}
 use Rattle.engine_cells.specs.Cells.{row_from}
 use Rattle.engine_house.specs.Reads.{Sure}
 use Rattle.engine_quiet.specs.declared.Ground.{Ground}
+use Rattle.engine_quiet.specs.declared.Over.{Over}
 use Rattle.engine_quiet.specs.declared.Over.TheVariants.{Unfit}
+use Rattle.engine_quiet.specs.declared.Spot.{Spot}
 use Rattle.engine_quiet.specs.Spot.{told_types, blocks_of, stand_of, at_spot, Grounded, Standing, quiet, code_at}
 use Rattle.engine_events.specs.declared.Turn.{Turn}
 
@@ -40,13 +42,18 @@ abbrev pub answers_left : List ℕ → Turn → List Answer
 answers_left list t = items (answer_from list) (answer_end list) t.answer t.answers
 
 -- no event so far and no step counted
-abbrev pub config_in : Ground → Cells → Turn → Config
+abbrev pub config_in : Ground → Cells 256 → Turn → Config
 config_in g cells t = at_spot g.s.now cells (answers_left g.list.now t) t.spot 0
 
 -- ---- what a run rests on
 -- how many events can still come: one for each answer left and one more; none once it is over
+-- answers: how many are left
+abbrev pub ahead_of : Result Spot Over → ℕ → ℕ
+ahead_of (Ok p) answers = suc answers
+ahead_of (Err k) answers = 0
+
 abbrev pub events_ahead : Turn → ℕ
-events_ahead t = cond (eqb t.spot.left 0) 0 (suc t.answers)
+events_ahead t = ahead_of t.spot t.answers
 
 pub record Ready (g : Ground) (t : Turn) : Type 0 where
   pub standing : Standing g t.spot
@@ -54,11 +61,11 @@ pub record Ready (g : Ground) (t : Turn) : Type 0 where
   pub answers : t.answer + most_answer * t.answers ≤ far
   pub events : t.event + most_event * events_ahead t ≤ far
 
--- the run stands before an instruction
-pub record Going (g : Ground) (t : Turn) : Type 0 where
+-- the run stands before the instruction at p
+pub record Going (g : Ground) (p : Spot) (t : Turn) : Type 0 where
   pub grounded : Grounded g
   pub ready : Ready g t
-  pub some : 0 < t.spot.left
+  pub here : t.spot ≡ Ok p
 
 -- ---- an instruction with an event
 abbrev pub instr_at : List ℕ → ℕ → Instr
@@ -94,18 +101,16 @@ EventAs s at l m to r none = (r ≡ None) × (m ≡ l)
 EventAs s at l m to r (some vs) = EventTold s at l m to vs r
 
 -- ---- a step, from t to r; before and after: the cells; l and m: what was lent for the events
-pub record Does (g : Ground) (before after : Cells) (l m : List ℕ) (t r : Turn) : Type 0 where
+pub record Does (g : Ground) (before after : Cells 256) (l m : List ℕ) (t r : Turn) : Type 0 where
   pub added : List Event
   pub fits : fits_at (told_types g.types.now) (config_in g before t).mach (stand_of g.s.now t.spot) ≡ true
   pub takes : take_step (told_types g.types.now) (blocks_of g) (config_in g before t) ≡ shifted added 1 (config_in g after r)
   pub wrote : Wrote l m t.event r.event (events_bytes (id_width g.s.now) added)
 
 -- or the answer that it takes does not fit
-pub record Stepped (g : Ground) (before after : Cells) (l m : List ℕ) (t r : Turn) : Type 0 where
+pub record Stepped (g : Ground) (before after : Cells 256) (l m : List ℕ) (t r : Turn) : Type 0 where
   pub ready : Ready g r
   pub more : r.more ≡ t.more
   pub tells : r.tells ≡ t.tells
-  pub unfit :
-      r.spot.stop ≡ Unfit →
-      (fits_at (told_types g.types.now) (config_in g before t).mach (stand_of g.s.now t.spot) ≡ false) × (r.spot.left ≡ 0)
-  pub fit : r.spot.stop ≢ Unfit → Does g before after l m t r
+  pub unfit : r.spot ≡ Err Unfit → fits_at (told_types g.types.now) (config_in g before t).mach (stand_of g.s.now t.spot) ≡ false
+  pub fit : r.spot ≢ Err Unfit → Does g before after l m t r

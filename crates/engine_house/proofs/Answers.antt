@@ -18,27 +18,25 @@ use Rattle.machine.specs.Machine.{Answer}
 use Rattle.running.specs.House.{go_on_byte, halt_byte, value_type, answer_test, answer_behind, house_answer, to_end, answers}
 use Rattle.running.specs.Items.{answer_from, answer_end}
 use Rattle.running.proofs.Items.{answer_decodes}
-use Rattle.engine_cells.specs.declared.Cell.{Cell}
 use Rattle.std.proofs.Common.{Option as CodeOption, None, Some}
-use Rattle.engine_house.specs.declared.Item.{Item}
-use Rattle.engine_house.specs.Reads.{item, AnswerAs, answer_by, opens, Sure, longest_list, ListAs}
+use Rattle.engine_house.specs.Reads.{EndAs, opens, Sure, longest_list, ListAs}
 use Rattle.engine_house.proofs.Values.{Faulty}
 use Rattle.engine_house.proofs.Form.{up_to_end, form_opens, form_closed, one_then, none_left}
 
 -- ---- an answer that was read, or not
-was_answer : (z : Res Answer) (r : CodeOption Item) (c : Cell) (q : ℕ) → AnswerAs z r → r ≡ Some (item c q) → z ≡ got (answer_by c) q
-unfolding AnswerAs
-was_answer (got x p) r c q h e =
-    let both : Some (item h.cell p) ≡ Some (item c q) = sym h.is ∙ e in
-    let same : item h.cell p ≡ item c q = cc both in
-    let a : h.cell ≡ c = ap (λ (x : Item). x.cell) same in
-    let b : p ≡ q = ap (λ (x : Item). x.end) same in
-    λ i. got ((sym h.answer ∙ ap answer_by a) i) (b i)
-was_answer (fault k o) r c q h e = absurd (cc (h, e))
+-- one that ends there
+record Ends (z : Res Answer) (q : ℕ) : Type 0 where
+  x : Answer
+  is : z ≡ got x q
 
-not_answer : (z : Res Answer) (r : CodeOption Item) → AnswerAs z r → r ≡ None → Faulty z
-unfolding AnswerAs
-not_answer (got x p) r h e = let same : Some (item h.cell p) ≡ None = sym h.is ∙ e in absurd (cc same)
+was_answer : (z : Res Answer) (r : CodeOption ℕ) (q : ℕ) → EndAs z r → r ≡ Some q → Ends z q
+unfolding EndAs
+was_answer (got x p) r q h e = let same : Some p ≡ Some q = sym h ∙ e in record { x = x; is = ap (got x) (cc same) }
+was_answer (fault k o) r q h e = absurd (cc (h, e))
+
+not_answer : (z : Res Answer) (r : CodeOption ℕ) → EndAs z r → r ≡ None → Faulty z
+unfolding EndAs
+not_answer (got x p) r h e = let same : Some p ≡ None = sym h ∙ e in absurd (cc same)
 not_answer (fault k o) r h e = record { reason = k; place = o; is = refl }
 
 module _ (s : List ℕ) (p : ℕ) where
@@ -147,7 +145,7 @@ module _ (s : List ℕ) where
       go (fault k o) h = h
 
   module _ (p n : ℕ) (so_far : ListLoop p n) where
-    module _ (h : p < length s) (l : n + 5 ≤ p) (r : CodeOption Item) (d : AnswerAs (house_answer s p) r) where
+    module _ (h : p < length s) (l : n + 5 ≤ p) (r : CodeOption ℕ) (d : EndAs (house_answer s p) r) where
       by_next :
           (z : Res Answer) → house_answer s p ≡ z → (r : CodeOption ℕ) →
           ComesAs s p n (then z (λ x q. then (answers_rest (length s - (n + 1)) s q) (λ xs e. got (x ∷ xs) e))) r →
@@ -158,16 +156,16 @@ module _ (s : List ℕ) where
           (subst (λ (m : ℕ). ComesAs s p n (answers_rest m s p) r) (sym one_less)
           (subst (λ (y : Res (List Answer)). ComesAs s p n y r) (sym (rest_more (length s - (n + 1)) s p h z e)) k))
 
-      module _ (c : Cell) (q : ℕ) (e : r ≡ Some (item c q)) where
+      module _ (q : ℕ) (e : r ≡ Some q) where
         pub list_went : ListLoop q (n + 1)
         list_went r' k =
-            let w = was_answer (house_answer s p) r c q d e in
-            by_next (got (answer_by c) q) w r' (one_before s p n (answer_by c) q w (answers_rest (length s - (n + 1)) s q) r' k)
+            let w = was_answer (house_answer s p) r q d e in
+            by_next (got w.x q) w.is r' (one_before s p n w.x q w.is (answers_rest (length s - (n + 1)) s q) r' k)
 
         pub list_moved : p < q
         list_moved =
-            let w = was_answer (house_answer s p) r c q d e in
-            omega (arith, ((answer_decodes s p).told (answer_by c) q w).1, end_behind s p)
+            let w = was_answer (house_answer s p) r q d e in
+            omega (arith, ((answer_decodes s p).told w.x q w.is).1, end_behind s p)
 
       pub list_stopped : r ≡ None → ListAs s (answers s 0) None
       unfolding ComesAs

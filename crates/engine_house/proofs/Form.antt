@@ -1,12 +1,13 @@
 -- The form around the items: its length and version, then the items, then the end.
 use Prim.Native.Nat.{ℕ, ◌-◌, ◌<◌, ◌≤◌}
-use mathlib.Core.Path.{◌≡◌, refl, ap, ◌∙◌}
+use mathlib.Core.Path.{◌≡◌, refl, sym, ap, ◌∙◌}
+use mathlib.Core.Logic.{◌≢◌}
 use mathlib.Core.List.{List, [], ◌∷◌}
 use mathlib.Core.Bool.{Bool, true, false, ◌&&◌}
 use native.Mathlib.Omega.{arith}
 use lib.ListN.{length}
 use lib.Dec.{leb, eqb}
-use borrow.Author.Tests.{lt-ltb, le-ltb, lt-leb, le-leb, leb-true, leb-false, eqb-true}
+use borrow.Author.Tests.{eq-eqb, ne_eqb, lt-ltb, le-ltb, lt-leb, le-leb, leb-true, leb-false}
 use Rattle.arith.proofs.Clash.{clash}
 use Rattle.record.specs.declared.Refusal.TheVariants.{Length, Version}
 use Rattle.record.specs.Reader.{Res, got, fault, Reader, then, judge, give, ◌>>=◌, num_at, field}
@@ -31,10 +32,17 @@ module _ (s : List ℕ) where
     unfolding opens
     opens_tested = rw (le-leb 5 (length s) h) (λ i. eqb (e i) (length s - 4) && eqb (f i) 1)
 
-    pub opens_few : l < 4294967296 → (eqb l (length s - 4) && eqb v 1) ≡ true → length s < longest_list
-    opens_few b t =
-        let n : l ≡ length s - 4 = eqb-true l (length s - 4) (and_left (eqb l (length s - 4)) (eqb v 1) t) in
-        omega (arith, b, n)
+    -- by whether the length is right
+    pub opens_wrong : l ≢ length s - 4 → false ≡ opens s
+    unfolding opens
+    opens_wrong n = sym (ap (λ (b : Bool). b && eqb v 1) (ne_eqb l (length s - 4) n)) ∙ opens_tested
+
+    pub opens_right : l ≡ length s - 4 → eqb v 1 ≡ opens s
+    unfolding opens
+    opens_right n = sym (ap (λ (b : Bool). b && eqb v 1) (eq-eqb l (length s - 4) n)) ∙ opens_tested
+
+    pub opens_few : l < 4294967296 → l ≡ length s - 4 → length s < longest_list
+    opens_few b n = omega (arith, b, n)
 
 -- ---- what is read of it
 -- items up to the end

@@ -1,6 +1,6 @@
 -- What the code reads of an item of a store and of an answer: by its first byte, and by what was read behind that.
 use Prim.Native.Nat.{ℕ, ◌+◌, ◌<◌, ◌≤◌}
-use mathlib.Core.Path.{◌≡◌, refl, sym, ap, ◌∙◌}
+use mathlib.Core.Path.{◌≡◌, refl, sym, ap, ◌∙◌, subst}
 use mathlib.Core.Logic.{◌≢◌}
 use mathlib.Core.List.{List}
 use mathlib.Core.Bool.{Bool, true, false, cond, ◌||◌}
@@ -9,23 +9,24 @@ use native.Mathlib.Omega.{arith}
 use lib.ListN.{length}
 use lib.Dec.{eqb}
 use borrow.Author.Tests.{eq-eqb, ne_eqb}
-use Rattle.arith.specs.Value.{Val, is_pointer, has_type}
+use Rattle.arith.specs.Value.{Val, has_type}
 use Rattle.arith.proofs.Clash.{clash}
 use Rattle.record.specs.declared.Refusal.{Refusal}
 use Rattle.record.specs.declared.Refusal.TheVariants.{Length, Limit}
 use Rattle.record.specs.Reader.{Test}
 use Rattle.std.specs.Prelude.{Ok, Err}
+use Rattle.std.specs.Bool.{then_some}
 use Rattle.record.specs.Reader.{Res, got, fault, Reader, then, judge, give, ◌>>=◌, num_at, field}
 use Rattle.record.specs.Tests.{need}
 use Rattle.record.proofs.Following.{field_past, field_there, tested_is}
-use Rattle.machine.specs.Machine.{Answer, value, go_on, halt}
+use Rattle.machine.specs.Machine.{value, go_on, halt}
 use Rattle.running.specs.House.{nothing_byte, go_on_byte, halt_byte, value_type, value_behind, stored_test, set_behind, stored_behind, stored_value, answer_test, value_answer, answer_behind, house_answer}
 use Rattle.engine_cells.specs.declared.Cell.{Cell}
-use Rattle.engine_cells.specs.Cells.{value_by, cell_value}
+use Rattle.engine_cells.specs.Cells.{cell_value}
 use Rattle.engine_cells.proofs.Store.{held_none, held_some}
 use Rattle.std.proofs.Common.{Option as CodeOption, None, Some}
 use Rattle.engine_house.specs.declared.Item.{Item}
-use Rattle.engine_house.specs.Reads.{item, ReadAs, KindAs, TypedAs, StoredAs, answer_by, AnswerAs, end_by}
+use Rattle.engine_house.specs.Reads.{item, ReadAs, KindAs, BehindAs, TypedAs, StoredAs, EndAs}
 use Rattle.engine_house.proofs.Values.{Faulty, was_read, not_read, kind_is}
 
 -- ---- the first byte
@@ -150,21 +151,58 @@ module _
       no_stored t (stored_value s at)
       (record { reason = f.reason; place = f.place; is = stored_typed s at h n v (fault f.reason f.place) f.is })
 
+-- the same by whether the byte is a value's type byte
+module _
+    (s : List ℕ) (at : ℕ) (h : at < length s) (kind : ℕ) (ek : kind ≡ num_at s at 1) (n : kind ≢ nothing_byte) (t : ℕ)
+    (r : CodeOption Item) (d : BehindAs (value_type kind) kind (value_behind kind s (at + 1)) r) where
+  set : num_at s at 1 ≢ nothing_byte
+  set e = n (ek ∙ e)
+
+  behind : BehindAs (value_type (num_at s at 1)) (num_at s at 1) (value_behind (num_at s at 1) s (at + 1)) r
+  behind = subst (λ (k : ℕ). BehindAs (value_type k) k (value_behind k s (at + 1)) r) ek d
+
+  pub stored_none : r ≡ None → StoredAs t (stored_value s at) None
+  unfolding BehindAs
+  stored_none e = go (value_type (num_at s at 1)) refl behind
+    where
+      go :
+          (b : Bool) → value_type (num_at s at 1) ≡ b →
+          BehindAs b (num_at s at 1) (value_behind (num_at s at 1) s (at + 1)) r → StoredAs t (stored_value s at) None
+      go true v k = stored_missing s at h set v t r k.0 e
+      go false v k = no_stored t (stored_value s at) (stored_untyped s at h set v)
+
+  pub stored_some :
+      (c : Cell) (p : ℕ) → r ≡ Some (item c p) →
+      StoredAs t (stored_value s at) (then_some (has_type t (cell_value c)) (item c p))
+  unfolding BehindAs
+  stored_some c p e = go (value_type (num_at s at 1)) refl behind
+    where
+      go :
+          (b : Bool) → value_type (num_at s at 1) ≡ b →
+          BehindAs b (num_at s at 1) (value_behind (num_at s at 1) s (at + 1)) r →
+          StoredAs t (stored_value s at) (then_some (has_type t (cell_value c)) (item c p))
+      go true v k = by (has_type t (cell_value c)) refl
+        where
+          by : (b : Bool) → has_type t (cell_value c) ≡ b → StoredAs t (stored_value s at) (then_some b (item c p))
+          by true f = stored_fit s at h set v t r k.0 c p e k.1 f
+          by false f = stored_unfit s at h set v t r k.0 c p e f
+      go false v k = let q : None ≡ Some (item c p) = sym k ∙ e in absurd (cc q)
+
+-- ---- what stands behind a byte, by whether it is a value's type byte
+module _ (kind : ℕ) (z : Res Val) where
+  pub behind_none : value_type kind ≡ false → BehindAs (value_type kind) kind z None
+  unfolding BehindAs
+  behind_none v = rw v refl
+
+  pub behind_value : (r : CodeOption Item) → value_type kind ≡ true → ReadAs z r × KindAs kind r → BehindAs (value_type kind) kind z r
+  unfolding BehindAs
+  behind_value r v h = rw v h
+
 -- ---- an answer
-module _ (z : Res Answer) where
-  no_answer : Faulty z → AnswerAs z None
-  unfolding AnswerAs
-  no_answer f = rw f.is refl
-
-  is_answer : (c : Cell) (p : ℕ) → z ≡ got (answer_by c) p → AnswerAs z (Some (item c p))
-  unfolding AnswerAs
-  is_answer c p e = rw e (record { cell = c; is = refl; answer = refl })
-
 module _ (s : List ℕ) (at : ℕ) where
-  pub answer_past : length s ≤ at → AnswerAs (house_answer s at) None
-  unfolding house_answer
-  answer_past h =
-      no_answer (house_answer s at) (record { reason = Length; place = at; is = byte_past answer_test answer_behind s at h })
+  pub answer_past : length s ≤ at → EndAs (house_answer s at) None
+  unfolding house_answer EndAs
+  answer_past h = rw (byte_past answer_test answer_behind s at h) refl
 
   module _ (h : at < length s) where
     by_marks :
@@ -178,80 +216,80 @@ module _ (s : List ℕ) (at : ℕ) where
         ∙ λ i. cond (e i) (give go_on) (cond (f i) (give halt) (value_answer (num_at s at 1))) s (at + 1)
 
     -- a byte that stands alone
-    pub answer_marked :
-        (word offset : ℕ) → (eqb (num_at s at 1) go_on_byte || eqb (num_at s at 1) halt_byte) ≡ true →
-        AnswerAs (house_answer s at) (Some (item (record { kind = num_at s at 1; word = word; offset = offset }) (at + 1)))
-    unfolding answer_by give
-    answer_marked word offset e = go (eqb (num_at s at 1) go_on_byte) refl (eqb (num_at s at 1) halt_byte) refl e
+    marked_first : (eqb (num_at s at 1) go_on_byte || eqb (num_at s at 1) halt_byte) ≡ true → EndAs (house_answer s at) (Some (at + 1))
+    unfolding EndAs give
+    marked_first e = go (eqb (num_at s at 1) go_on_byte) refl (eqb (num_at s at 1) halt_byte) refl e
       where
         go :
             (a : Bool) → eqb (num_at s at 1) go_on_byte ≡ a → (b : Bool) → eqb (num_at s at 1) halt_byte ≡ b → (a || b) ≡ true →
-            AnswerAs (house_answer s at) (Some (item (record { kind = num_at s at 1; word = word; offset = offset }) (at + 1)))
-        go true e b f k =
-            is_answer (house_answer s at) _ (at + 1)
-            (by_marks true b _ e f refl refl
-            ∙ λ i. got (cond (sym e i) go_on (cond (eqb (num_at s at 1) halt_byte) halt (value (value_by (num_at s at 1) word offset)))) (at + 1))
-        go false e true f k =
-            is_answer (house_answer s at) _ (at + 1)
-            (by_marks false true _ e f refl refl
-            ∙ λ i. got (cond (sym e i) go_on (cond (sym f i) halt (value (value_by (num_at s at 1) word offset)))) (at + 1))
+            EndAs (house_answer s at) (Some (at + 1))
+        go true e b f k = rw (by_marks true b _ e f refl refl) refl
+        go false e true f k = rw (by_marks false true _ e f refl refl) refl
         go false e false f k = clash (cc k)
 
     module _ (e : (eqb (num_at s at 1) go_on_byte || eqb (num_at s at 1) halt_byte) ≡ false) where
       unmarked : (eqb (num_at s at 1) go_on_byte ≡ false) × (eqb (num_at s at 1) halt_byte ≡ false)
       unmarked = or_no (eqb (num_at s at 1) go_on_byte) (eqb (num_at s at 1) halt_byte) e
 
-      pub answer_untyped : value_type (num_at s at 1) ≡ false → AnswerAs (house_answer s at) None
-      unfolding house_answer answer_test
-      answer_untyped v =
+      untyped_first : value_type (num_at s at 1) ≡ false → EndAs (house_answer s at) None
+      unfolding house_answer answer_test EndAs
+      untyped_first v =
           let fails : answer_test (num_at s at 1) ≡ Err Limit = λ i. need (unmarked.0 i || (unmarked.1 i || v i)) Limit in
-          no_answer (house_answer s at)
-          (record { reason = Limit; place = at; is = byte_fails answer_test answer_behind s at h Limit fails })
+          rw (byte_fails answer_test answer_behind s at h Limit fails) refl
 
       -- a value behind its type byte, read by the code
-      pub answer_valued :
-          value_type (num_at s at 1) ≡ true → (r : CodeOption Item) → ReadAs (value_behind (num_at s at 1) s (at + 1)) r →
-          KindAs (num_at s at 1) r → AnswerAs (house_answer s at) r
-      unfolding value_answer ◌>>=◌ give answer_by
-      answer_valued v r d k = go r d k
-        where
-          read :
-              (y : Res Val) → value_behind (num_at s at 1) s (at + 1) ≡ y → house_answer s at ≡ then y (λ v p. got (value v) p)
-          read y q =
-              by_marks false false true unmarked.0 unmarked.1 v refl ∙ ap (λ (u : Res Val). then u (λ v p. got (value v) p)) q
+      module _ (v : value_type (num_at s at 1) ≡ true) where
+        read :
+            (y : Res Val) → value_behind (num_at s at 1) s (at + 1) ≡ y → house_answer s at ≡ then y (λ v p. got (value v) p)
+        unfolding value_answer ◌>>=◌ give
+        read y q =
+            by_marks false false true unmarked.0 unmarked.1 v refl ∙ ap (λ (u : Res Val). then u (λ v p. got (value v) p)) q
 
-          go :
-              (r : CodeOption Item) → ReadAs (value_behind (num_at s at 1) s (at + 1)) r → KindAs (num_at s at 1) r →
-              AnswerAs (house_answer s at) r
-          go (Some x) d k =
-              let c = x.cell in
-              let p = x.end in
-              let same : c.kind ≡ num_at s at 1 = kind_is (num_at s at 1) (Some (item c p)) c p k refl in
-              let a : eqb c.kind go_on_byte ≡ false = ap (λ (b : ℕ). eqb b go_on_byte) same ∙ unmarked.0 in
-              let b : eqb c.kind halt_byte ≡ false = ap (λ (b : ℕ). eqb b halt_byte) same ∙ unmarked.1 in
-              is_answer (house_answer s at) c p
-              (read (got (cell_value c) p) (was_read _ (Some (item c p)) c p d refl)
-              ∙ λ i. got (cond (sym a i) go_on (cond (sym b i) halt (value (cell_value c)))) p)
-          go None d k =
-              let f = not_read _ None d refl in
-              no_answer (house_answer s at)
-              (record { reason = f.reason; place = f.place; is = read (fault f.reason f.place) f.is })
+        valued_first : (x : Item) → ReadAs (value_behind (num_at s at 1) s (at + 1)) (Some x) → EndAs (house_answer s at) (Some x.end)
+        unfolding EndAs
+        valued_first x d = rw (read (got (cell_value x.cell) x.end) (was_read _ (Some x) x.cell x.end d refl)) refl
 
--- ---- where an answer ends
-module _ (kind at : ℕ) where
-  pub end_marked : (eqb kind go_on_byte || eqb kind halt_byte) ≡ true → at + 1 ≡ end_by kind at
-  end_marked e = go (eqb kind go_on_byte) (eqb kind halt_byte) e
-    where
-      go :
-          (a b : Bool) → (a || b) ≡ true →
-          at + 1 ≡ cond a (at + 1) (cond b (at + 1) (cond (is_pointer kind) (at + 1 + 8 + 8) (at + 1 + 8)))
-      go true b e = refl
-      go false true e = refl
-      go false false e = clash (cc e)
+        missing_first : ReadAs (value_behind (num_at s at 1) s (at + 1)) None → EndAs (house_answer s at) None
+        unfolding EndAs
+        missing_first d =
+            let f = not_read _ None d refl in
+            rw (read (fault f.reason f.place) f.is) refl
 
-  pub end_other :
-      (eqb kind go_on_byte || eqb kind halt_byte) ≡ false → {b : Bool} → is_pointer kind ≡ b →
-      cond b (at + 1 + 8 + 8) (at + 1 + 8) ≡ end_by kind at
-  end_other e {b} p =
-      let k = or_no (eqb kind go_on_byte) (eqb kind halt_byte) e in
-      λ i. cond (sym k.0 i) (at + 1) (cond (sym k.1 i) (at + 1) (cond (sym p i) (at + 1 + 8 + 8) (at + 1 + 8)))
+-- ---- an answer by its first byte as it was read
+module _ (s : List ℕ) (at : ℕ) (h : at < length s) (kind : ℕ) (ek : kind ≡ num_at s at 1) where
+  abbrev Stands : Bool → Type 0
+  Stands b = (eqb kind go_on_byte || eqb kind halt_byte) ≡ b
+
+  abbrev stands_same : (b : Bool) → Stands b → (eqb (num_at s at 1) go_on_byte || eqb (num_at s at 1) halt_byte) ≡ b
+  stands_same b e = subst (λ (k : ℕ). (eqb k go_on_byte || eqb k halt_byte) ≡ b) ek e
+
+  pub answer_marked : Stands true → EndAs (house_answer s at) (Some (at + 1))
+  answer_marked e = marked_first s at h (stands_same true e)
+
+  module _ (e : Stands false) (r : CodeOption Item) (d : BehindAs (value_type kind) kind (value_behind kind s (at + 1)) r) where
+    behind_first : BehindAs (value_type (num_at s at 1)) (num_at s at 1) (value_behind (num_at s at 1) s (at + 1)) r
+    behind_first = subst (λ (k : ℕ). BehindAs (value_type k) k (value_behind k s (at + 1)) r) ek d
+
+    pub answer_read : (x : Item) → r ≡ Some x → EndAs (house_answer s at) (Some x.end)
+    unfolding BehindAs
+    answer_read x f = go (value_type (num_at s at 1)) refl behind_first
+      where
+        go :
+            (b : Bool) → value_type (num_at s at 1) ≡ b →
+            BehindAs b (num_at s at 1) (value_behind (num_at s at 1) s (at + 1)) r → EndAs (house_answer s at) (Some x.end)
+        go true v k =
+            valued_first s at h (stands_same false e) v x
+            (subst (ReadAs (value_behind (num_at s at 1) s (at + 1))) f k.0)
+        go false v k = let q : None ≡ Some x = sym k ∙ f in absurd (cc q)
+
+    pub answer_none : r ≡ None → EndAs (house_answer s at) None
+    unfolding BehindAs
+    answer_none f = go (value_type (num_at s at 1)) refl behind_first
+      where
+        go :
+            (b : Bool) → value_type (num_at s at 1) ≡ b →
+            BehindAs b (num_at s at 1) (value_behind (num_at s at 1) s (at + 1)) r → EndAs (house_answer s at) None
+        go true v k =
+            missing_first s at h (stands_same false e) v
+            (subst (ReadAs (value_behind (num_at s at 1) s (at + 1))) f k.0)
+        go false v k = untyped_first s at h (stands_same false e) v

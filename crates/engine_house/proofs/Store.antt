@@ -8,7 +8,8 @@ use native.Mathlib.Omega.{arith}
 use lib.ListN.{length, get_or, drop, drop_of_length-le}
 use lib.Seq.{drop-cons}
 use lib.Dec.{leb}
-use borrow.Author.Tests.{le-leb, lt-leb, leb-true, leb-false}
+use borrow.Author.Tests.{leb-true, leb-false}
+use Rattle.std.specs.Bool.{then_some}
 use Rattle.arith.specs.Map.{upd}
 use Rattle.arith.specs.Value.{Val}
 use Rattle.arith.proofs.Clash.{clash}
@@ -23,7 +24,7 @@ use Rattle.engine_cells.specs.declared.Cells.{Cells}
 use Rattle.engine_cells.specs.Cells.{cell_holds, store_in}
 use Rattle.std.proofs.Common.{Option as CodeOption, None, Some}
 use Rattle.engine_house.specs.declared.Item.{Item}
-use Rattle.engine_house.specs.Reads.{item, TypedAs, StoredAs, opens, FitAs, StoreAs}
+use Rattle.engine_house.specs.Reads.{item, TypedAs, StoredAs, opens, Blank, FitAs, StoreAs}
 use Rattle.engine_house.proofs.Form.{up_to_end, form_opens, form_closed, one_then, none_left, some_left}
 
 -- ---- an item that was read, or not
@@ -75,12 +76,8 @@ set_there σ i (v ∷ vs) h (suc k) =
     ap (λ (j : ℕ). all_set (upd NameIx-discrete σ (nm i) v) (i + 1) vs (nm j)) e
     ∙ set_there (upd NameIx-discrete σ (nm i) v) (i + 1) vs later k
 
--- cells of which none is set
-abbrev pub Blank : Cells → Type 0
-Blank cells = (x : NameIx) → store_in cells x ≡ none
-
 -- from there on
-all_held : (cells : Cells) (vs : List (Option Val)) → Blank cells → all_set (store_in cells) 0 vs ≡ holding vs
+all_held : {N : ℕ} (cells : Cells N) (vs : List (Option Val)) → Blank cells → all_set (store_in cells) 0 vs ≡ holding vs
 all_held cells vs b =
     fun_ext (λ x.
     ap (λ (k : ℕ). all_set (store_in cells) 0 vs (nm k)) (from_zero x.0) ∙
@@ -94,11 +91,11 @@ abbrev pub stored_rest : ℕ → List ℕ → ℕ → Res (List (Option Val))
 stored_rest n s p = up_to_end (times n (λ left. stored_value)) s p
 
 -- ts: the types of the names from i on; σ: what is held so far
-unfoldable pub RestAs : List ℕ → ℕ → Store → Res (List (Option Val)) → Cells → Bool → Type 0
+unfoldable pub RestAs : {N : ℕ} → List ℕ → ℕ → Store → Res (List (Option Val)) → Cells N → Bool → Type 0
 RestAs ts i σ (got vs p) after b = (b ≡ of_types ts vs) × (b ≡ true → store_in after ≡ all_set σ i vs)
 RestAs ts i σ (fault k o) after b = b ≡ false
 
-module _ (after : Cells) where
+module _ {N : ℕ} (after : Cells N) where
   -- the first item, and those behind it
   first_set :
       (t : ℕ) (ts : List ℕ) (i : ℕ) (σ : Store) (o : Option Val) → of_type t o ≡ true → (z : Res (List (Option Val))) (b : Bool) →
@@ -147,45 +144,44 @@ module _ (after : Cells) where
         go (fault k q) f h =
             subst (λ (z : Res (List (Option Val))). RestAs (t ∷ ts) i σ z after false) (sym (rest_by (fault k q) f)) refl
 
--- what the code answers: cells, if they hold the store
-abbrev pub answered : Cells → Bool → CodeOption Cells
-answered after b = cond b (Some after) None
+-- what the code answers
+abbrev pub answered : Bool → CodeOption Unit
+answered b = cond b (Some tt) None
 
 answers_as :
-    (ts : List ℕ) (after : Cells) (b : Bool) (vs : List (Option Val)) →
-    b ≡ of_types ts vs → (b ≡ true → store_in after ≡ holding vs) → FitAs (of_types ts vs) vs (answered after b)
+    {N : ℕ} (ts : List ℕ) (after : Cells N) (b : Bool) (vs : List (Option Val)) →
+    b ≡ of_types ts vs → (b ≡ true → store_in after ≡ holding vs) → FitAs (of_types ts vs) vs after (answered b)
 unfolding FitAs
-answers_as ts after true vs e h =
-    subst (λ (c : Bool). FitAs c vs (Some after)) e (record { cells = after; are = refl; hold = h refl })
-answers_as ts after false vs e h = subst (λ (c : Bool). FitAs c vs None) e refl
+answers_as ts after true vs e h = subst (λ (c : Bool). FitAs c vs after (Some tt)) e (refl, h refl)
+answers_as ts after false vs e h = subst (λ (c : Bool). FitAs c vs after None) e refl
 
 -- ---- the loop; ts: the types of all names
-module _ (s ts : List ℕ) where
+module _ {N : ℕ} (s ts : List ℕ) where
   -- i items were read, up to p
-  abbrev Left : Cells → ℕ → ℕ → Cells → Bool → Type 0
+  abbrev Left : Cells N → ℕ → ℕ → Cells N → Bool → Type 0
   Left cells p i after b = RestAs (drop i ts) i (store_in cells) (stored_rest (length ts - i) s p) after b
 
   -- so the rest gives the whole
-  abbrev pub StoreLoop : Cells → ℕ → ℕ → Type 0
-  StoreLoop cells p i = (after : Cells) (b : Bool) → Left cells p i after b → StoreAs ts (stored (length ts) s 0) (answered after b)
+  abbrev pub StoreLoop : Cells N → ℕ → ℕ → Type 0
+  StoreLoop cells p i = (after : Cells N) (b : Bool) → Left cells p i after b → StoreAs ts (stored (length ts) s 0) after (answered b)
 
-  pub store_closed : opens s ≡ false → StoreAs ts (stored (length ts) s 0) None
+  pub store_closed : (after : Cells N) → opens s ≡ false → StoreAs ts (stored (length ts) s 0) after None
   unfolding stored StoreAs
-  store_closed o = rw (form_closed (times (length ts) (λ left. stored_value)) s o).is refl
+  store_closed after o = rw (form_closed (times (length ts) (λ left. stored_value)) s o).is refl
 
-  pub store_start : (cells : Cells) → opens s ≡ true → Blank cells → StoreLoop cells 5 0
+  pub store_start : (cells : Cells N) → opens s ≡ true → Blank cells → StoreLoop cells 5 0
   unfolding stored RestAs StoreAs
   store_start cells o k after b h =
       let n : length ts ≡ length ts - 0 = omega arith in
       let e : stored (length ts) s 0 ≡ stored_rest (length ts - 0) s 5 =
       form_opens (times (length ts) (λ left. stored_value)) s o ∙ ap (λ (m : ℕ). stored_rest m s 5) n in
-      subst (λ (z : Res (List (Option Val))). StoreAs ts z (answered after b)) (sym e) (go (stored_rest (length ts - 0) s 5) h)
+      subst (λ (z : Res (List (Option Val))). StoreAs ts z after (answered b)) (sym e) (go (stored_rest (length ts - 0) s 5) h)
     where
-      go : (z : Res (List (Option Val))) → RestAs ts 0 (store_in cells) z after b → StoreAs ts z (answered after b)
+      go : (z : Res (List (Option Val))) → RestAs ts 0 (store_in cells) z after b → StoreAs ts z after (answered b)
       go (got vs p) h = answers_as ts after b vs h.0 (λ e. h.1 e ∙ all_held cells vs k)
-      go (fault k o) h = ap (answered after) h
+      go (fault k o) h = ap answered h
 
-  module _ (cells : Cells) (p i : ℕ) (so_far : StoreLoop cells p i) where
+  module _ (cells : Cells N) (p i : ℕ) (so_far : StoreLoop cells p i) where
     module _ (h : i < length ts) (r : CodeOption Item) (d : StoredAs (get_or ts i 0) (stored_value s p) r) where
       next_types : drop i ts ≡ get_or ts i 0 ∷ drop (i + 1) ts
       next_types =
@@ -194,9 +190,9 @@ module _ (s ts : List ℕ) where
 
       -- by the next item and those behind it
       by_next :
-          (after : Cells) (b : Bool) →
+          (after : Cells N) (b : Bool) →
           RestAs (get_or ts i 0 ∷ drop (i + 1) ts) i (store_in cells) (stored_rest (suc (length ts - (i + 1))) s p) after b →
-          StoreAs ts (stored (length ts) s 0) (answered after b)
+          StoreAs ts (stored (length ts) s 0) after (answered b)
       by_next after b k =
           let one_less : length ts - i ≡ suc (length ts - (i + 1)) = omega (arith, h) in
           so_far after b
@@ -205,7 +201,7 @@ module _ (s ts : List ℕ) where
 
       -- it was put into the table
       pub store_went :
-          (c : Cell) (q : ℕ) → r ≡ Some (item c q) → (m : Cells) →
+          (c : Cell) (q : ℕ) → r ≡ Some (item c q) → (m : Cells N) →
           store_in m ≡ upd NameIx-discrete (store_in cells) (nm i) (cell_holds c) →
           StoreLoop m q (i + 1)
       store_went c q e m f after b k =
@@ -213,13 +209,13 @@ module _ (s ts : List ℕ) where
           (one_stored after (get_or ts i 0) (drop (i + 1) ts) (length ts - (i + 1)) i (store_in cells) s p r d c q e b
           (subst (λ (σ : Store). RestAs (drop (i + 1) ts) (i + 1) σ (stored_rest (length ts - (i + 1)) s q) after b) f k))
 
-      pub store_stopped : r ≡ None → StoreAs ts (stored (length ts) s 0) None
+      pub store_stopped : r ≡ None → StoreAs ts (stored (length ts) s 0) cells None
       store_stopped e =
           by_next cells false
           (none_stored cells (get_or ts i 0) (drop (i + 1) ts) (length ts - (i + 1)) i (store_in cells) s p r d e)
 
     -- behind the last item: is anything left over
-    store_done : length ts ≤ i → StoreAs ts (stored (length ts) s 0) (answered cells (leb (length s) p))
+    store_done : length ts ≤ i → StoreAs ts (stored (length ts) s 0) cells (answered (leb (length s) p))
     unfolding times RestAs all_set of_types
     store_done h =
         let n : length ts - i ≡ 0 = omega (arith, h) in
@@ -232,8 +228,10 @@ module _ (s ts : List ℕ) where
         go true e = rw (none_left {A = Option Val} s p (leb-true (length s) p e)) (refl, λ k. refl)
         go false e = rw (some_left {A = Option Val} s p (leb-false (length s) p e)) refl
 
-    pub store_full : length ts ≤ i → length s ≤ p → StoreAs ts (stored (length ts) s 0) (Some cells)
-    store_full h f = rw (le-leb (length s) p f) at (store_done h)
-
-    pub store_over : length ts ≤ i → p < length s → StoreAs ts (stored (length ts) s 0) None
-    store_over h f = rw (lt-leb (length s) p f) at (store_done h)
+    pub store_full :
+        length ts ≤ i → StoreAs ts (stored (length ts) s 0) cells (then_some (leb (length s) p) tt)
+    store_full h = go (leb (length s) p) refl
+      where
+        go : (b : Bool) → leb (length s) p ≡ b → StoreAs ts (stored (length ts) s 0) cells (then_some b tt)
+        go true e = rw e at (store_done h)
+        go false e = rw e at (store_done h)

@@ -2,10 +2,11 @@
 use Prim.Native.Nat.{ℕ, zero, suc, ◌%◌, ◌<◌, ◌≤◌}
 use mathlib.Core.Path.{◌≡◌, refl, sym, ap, ◌∙◌}
 use mathlib.Core.List.{List}
+use mathlib.Core.Logic.{◌≢◌}
 use mathlib.Core.Bool.{Bool, true, false, cond, ◌&&◌, ◌||◌}
 use native.Mathlib.Omega.{arith}
 use lib.Dec.{T, ltb, leb, eqb}
-use borrow.Author.Tests.{lt-ltb, le-leb, lt-leb, leb-true, eqb-true}
+use borrow.Author.Tests.{eq-eqb, ne_eqb, lt-ltb, le-leb, lt-leb, leb-true, eqb-true}
 use Rattle.arith.specs.Word.{W}
 use Rattle.arith.specs.Value.{Val, pointer, scalar, type_of, in_range, has_type}
 use Rattle.arith.proofs.Operation.{eqb_comm}
@@ -165,6 +166,13 @@ module _ (t word : ℕ) where
     pub of_char : kind ≡ 3 → (eqb t 3 && scalar word) ≡ has_type t (value_by kind word offset)
     unfolding value_by plain_from type_of in_range
     of_char e = ap (λ (b : Bool). b && scalar word) (eqb_comm t 3) ∙ ap (λ (k : ℕ). has_type t (value_by k word offset)) (sym e)
+
+    -- by whether the type is char
+    pub char_typed : kind ≡ 3 → t ≡ 3 → scalar word ≡ has_type t (value_by kind word offset)
+    char_typed e f = sym (ap (λ (b : Bool). b && scalar word) (eq-eqb t 3 f)) ∙ of_char e
+
+    pub char_other : kind ≡ 3 → t ≢ 3 → false ≡ has_type t (value_by kind word offset)
+    char_other e n = sym (ap (λ (b : Bool). b && scalar word) (ne_eqb t 3 n)) ∙ of_char e
 
     -- "type byte 04 is an int literal held by a float"
     pub of_held : kind ≡ held → word < W → eqb t 2 ≡ has_type t (value_by kind word offset)

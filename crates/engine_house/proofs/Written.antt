@@ -20,7 +20,7 @@ use Rattle.engine_cells.proofs.Store.{nothing_in, some_in}
 use Rattle.engine_house.specs.Reads.{values_held}
 
 -- ---- what one name holds
-module _ {l m : List ℕ} {i p : ℕ} (cells : Cells) (x : ℕ) (c : Cell) (e : c ≡ cell_in cells x) where
+module _ {N : ℕ} {l m : List ℕ} {i p : ℕ} (cells : Cells N) (x : ℕ) (c : Cell) (e : c ≡ cell_in cells x) where
   pub nothing_written : c.kind ≡ nothing_byte → Wrote l m i p (be 1 nothing_byte) → Wrote l m i p (stored_bytes (store_in cells (nm x)))
   unfolding stored_bytes
   nothing_written k w =
@@ -34,7 +34,7 @@ module _ {l m : List ℕ} {i p : ℕ} (cells : Cells) (x : ℕ) (c : Cell) (e : 
       (sym (some_in cells x (cell_in cells x) refl (λ k. n (ap (λ (d : Cell). d.kind) e ∙ k)))) w
 
 -- ---- what the names hold from the x-th on
-module _ {l l₀ whole : List ℕ} {i i₀ : ℕ} (cells : Cells) (x n : ℕ) where
+module _ {N : ℕ} {l l₀ whole : List ℕ} {i i₀ : ℕ} (cells : Cells N) (x n : ℕ) where
   pub held_less :
       {m : List ℕ} {p : ℕ} → x < n → Wrote l m i p (stored_bytes (store_in cells (nm x))) →
       Rest l i (values_held cells x (n - x)) l₀ i₀ whole → Rest m p (values_held cells (x + 1) (n - (x + 1))) l₀ i₀ whole
@@ -52,8 +52,8 @@ module _ {l l₀ whole : List ℕ} {i i₀ : ℕ} (cells : Cells) (x n : ℕ) wh
       let none : n - x ≡ 0 = omega (arith, h) in
       rest_none (values_held cells x (n - x)) (ap (values_held cells x) none) r
 
-pub held_all : {l : List ℕ} {i : ℕ} (cells : Cells) (n : ℕ) → Rest l i (values_held cells 0 (n - 0)) l i (values_held cells 0 n)
-held_all {l} {i} cells n =
+pub held_all : {N : ℕ} {l : List ℕ} {i : ℕ} (cells : Cells N) (n : ℕ) → Rest l i (values_held cells 0 (n - 0)) l i (values_held cells 0 n)
+held_all {N} {l} {i} cells n =
     let all : n ≡ n - 0 = omega arith in
     subst (λ (k : ℕ). Rest l i (values_held cells 0 k) l i (values_held cells 0 n)) all rest_all
 

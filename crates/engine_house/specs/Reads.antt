@@ -1,16 +1,19 @@
 -- What reading the house form comes to in the code: an item as a cell, a store as cells, a list of answers as their number.
-use Rattle.std.specs.Prelude.{ℕ, zero, suc, ◌+◌, ◌-◌, ◌<◌, ◌≤◌, List, map, Bool, true, false, cond, ◌&&◌, ◌||◌, ◌≡◌, eqb, leb, length, Option as CodeOption, None, Some}
-use Rattle.std.proofs.Math.Option.{Option}
+use Rattle.std.specs.Prelude.{ℕ, zero, suc, ◌+◌, ◌-◌, ◌<◌, ◌≤◌, List, map, Bool, true, false, cond, ◌&&◌, ◌||◌, ◌≡◌, ◌≢◌, eqb, leb, length, Option as CodeOption, None, Some}
+use Rattle.std.proofs.Math.Option.{Option, none}
 use Rattle.arith.specs.Value.{Val, is_pointer}
+use Rattle.record.specs.declared.NameIx.{NameIx}
 use Rattle.record.specs.Reader.{Res, got, fault, num_at}
 use Rattle.record.specs.Write.{join}
 use Rattle.record.specs.Decode.{items}
 use Rattle.machine.specs.Machine.{Answer, value, go_on, halt}
-use Rattle.running.specs.House.{go_on_byte, halt_byte, value_type, of_type, of_types, holding, values_from, stored_bytes}
+use Rattle.running.specs.House.{nothing_byte, go_on_byte, halt_byte, value_type, of_type, of_types, holding, values_from, stored_bytes}
 use Rattle.running.specs.Items.{answer_from, answer_end}
 use Rattle.engine_cells.specs.declared.Cell.{Cell}
 use Rattle.engine_cells.specs.declared.Cells.{Cells}
 use Rattle.engine_cells.specs.Cells.{cell_value, cell_holds, store_in}
+use Rattle.engine_house.specs.declared.Answer.{Answer as Told}
+use Rattle.engine_house.specs.declared.Answer.TheVariants.{GoOn, Halt, Value}
 use Rattle.engine_house.specs.declared.Item.{Item}
 
 -- ---- items
@@ -34,6 +37,11 @@ unfoldable pub KindAs : ℕ → CodeOption Item → Type 0
 KindAs kind (Some x) = x.cell.kind ≡ kind
 KindAs kind None = Unit {0}
 
+-- both behind a byte that is a value's type byte, and nothing behind another
+unfoldable pub BehindAs : Bool → ℕ → Res Val → CodeOption Item → Type 0
+BehindAs true kind z r = ReadAs z r × KindAs kind r
+BehindAs false kind z r = r ≡ None
+
 -- a cell that holds this, and the place behind it
 pub record CellWith (o : Option Val) (p : ℕ) (r : CodeOption Item) : Type 0 where
   pub cell : Cell
@@ -50,19 +58,10 @@ unfoldable pub StoredAs : ℕ → Res (Option Val) → CodeOption Item → Type 
 StoredAs t (got o p) r = TypedAs (of_type t o) o p r
 StoredAs t (fault k o) r = r ≡ None
 
--- an answer by the cell that was read of it
-unfoldable pub answer_by : Cell → Answer
-answer_by c = cond (eqb c.kind go_on_byte) go_on (cond (eqb c.kind halt_byte) halt (value (cell_value c)))
-
--- a cell of this answer, and the place behind it
-pub record CellFor (x : Answer) (p : ℕ) (r : CodeOption Item) : Type 0 where
-  pub cell : Cell
-  pub is : r ≡ Some (item cell p)
-  pub answer : answer_by cell ≡ x
-
-unfoldable pub AnswerAs : Res Answer → CodeOption Item → Type 0
-AnswerAs (got x p) r = CellFor x p r
-AnswerAs (fault k o) r = r ≡ None
+-- an answer ends at a place
+unfoldable pub EndAs : Res Answer → CodeOption ℕ → Type 0
+EndAs (got x p) r = r ≡ Some p
+EndAs (fault k o) r = r ≡ None
 
 -- ---- the form around them
 -- its length and version are there and are right
@@ -70,21 +69,20 @@ unfoldable pub opens : List ℕ → Bool
 opens s = leb 5 (length s) && (eqb (num_at s 0 4) (length s - 4) && eqb (num_at s 4 1) 1)
 
 -- ---- a store
--- cells that hold these values
-pub record CellsOf (vs : List (Option Val)) (r : CodeOption Cells) : Type 0 where
-  pub cells : Cells
-  pub are : r ≡ Some cells
-  pub hold : store_in cells ≡ holding vs
+-- cells of which none is set
+abbrev pub Blank : {N : ℕ} → Cells N → Type 0
+Blank cells = (x : NameIx) → store_in cells x ≡ none
 
--- where each value is of its name's type, or not
-unfoldable pub FitAs : Bool → List (Option Val) → CodeOption Cells → Type 0
-FitAs true vs r = CellsOf vs r
-FitAs false vs r = r ≡ None
+module _ {N : ℕ} where
+  -- where each value is of its name's type the cells hold them
+  unfoldable pub FitAs : Bool → List (Option Val) → Cells N → CodeOption Unit → Type 0
+  FitAs true vs after r = (r ≡ Some tt) × (store_in after ≡ holding vs)
+  FitAs false vs after r = r ≡ None
 
--- ts: the types of the names
-unfoldable pub StoreAs : List ℕ → Res (List (Option Val)) → CodeOption Cells → Type 0
-StoreAs ts (got vs p) r = FitAs (of_types ts vs) vs r
-StoreAs ts (fault k o) r = r ≡ None
+  -- ts: the types of the names
+  unfoldable pub StoreAs : List ℕ → Res (List (Option Val)) → Cells N → CodeOption Unit → Type 0
+  StoreAs ts (got vs p) after r = FitAs (of_types ts vs) vs after r
+  StoreAs ts (fault k o) after r = r ≡ None
 
 -- ---- a list of answers
 -- the n answers from a place on have each a byte that stands alone or a type byte
@@ -110,11 +108,33 @@ ListAs s (got xs p) r = ListOf s xs r
 ListAs s (fault k o) r = r ≡ None
 
 -- ---- a second time
--- where the answer with this first byte ends
-abbrev pub end_by : ℕ → ℕ → ℕ
-end_by kind at = cond (eqb kind go_on_byte) (at + 1) (cond (eqb kind halt_byte) (at + 1) (cond (is_pointer kind) (at + 1 + 8 + 8) (at + 1 + 8)))
+-- what the code has as an answer, by its first byte and the words behind it
+abbrev pub answer_by : ℕ → ℕ → ℕ → Told
+answer_by kind word offset =
+    cond (eqb kind go_on_byte) GoOn (cond (eqb kind halt_byte) Halt (Value (record { kind = kind; word = word; offset = offset })))
+
+abbrev pub answer_there : List ℕ → ℕ → Told
+answer_there s at = answer_by (num_at s at 1) (num_at s (at + 1) 8) (num_at s (at + 1 + 8) 8)
+
+-- the answer that it is
+abbrev pub answer_of : Told → Answer
+answer_of GoOn = go_on
+answer_of Halt = halt
+answer_of (Value c) = value (cell_value c)
+
+-- a value is one, and not nothing
+abbrev pub IsSet : Told → Type 0
+IsSet GoOn = Unit {0}
+IsSet Halt = Unit {0}
+IsSet (Value c) = c.kind ≢ nothing_byte
+
+-- where it ends
+abbrev pub end_of : Told → ℕ → ℕ
+end_of GoOn at = at + 1
+end_of Halt at = at + 1
+end_of (Value c) at = cond (is_pointer c.kind) (at + 1 + 8 + 8) (at + 1 + 8)
 
 -- ---- a store written
 -- the bytes of what n names hold, the first of them i
-abbrev pub values_held : Cells → ℕ → ℕ → List ℕ
+abbrev pub values_held : {N : ℕ} → Cells N → ℕ → ℕ → List ℕ
 values_held cells i n = join (map stored_bytes (values_from (store_in cells) i n))

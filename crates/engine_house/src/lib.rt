@@ -1,4 +1,5 @@
 // The house form: values, stores and lists of answers as bytes, read with their tests; answers read a second time; and a store written.
+// as: a number that is known to fit, or u64 and usize, which have no From; try_from would hand out an error that cannot be.
 #![tactic(auto)]
 
 ghost use Rattle.std.specs.Prelude.{◌≡◌, true, ◌||◌, ◌+◌, ◌*◌, ◌<◌, ◌≤◌, T, eqb, length};
@@ -9,12 +10,12 @@ ghost use Rattle.running.specs.House.{go_on_byte, halt_byte, value_type, value_b
 ghost use Rattle.read_fields.specs.Places.{places};
 ghost use Rattle.write_bytes.specs.Put.{Wrote};
 ghost use Rattle.engine_cells.specs.Cells.{cell_value, store_in};
-ghost use Rattle.engine_house.specs.Reads.{ReadAs, KindAs, StoredAs, AnswerAs, StoreAs, opens, longest_list, ListAs, end_by, values_held};
+ghost use Rattle.engine_house.specs.Reads.{ReadAs, KindAs, BehindAs, StoredAs, EndAs, Blank, StoreAs, opens, longest_list, ListAs, answer_there, end_of, values_held};
 
 use engine_cells::{Cell, Cells};
 
 // What an item holds that was read, and the place behind it.
-#[derive(Clone, Copy)]
+#[derive(Clone, Copy, PartialEq, Eq, Debug)]
 pub struct Item {
     pub cell: Cell,
     pub end: usize,
@@ -25,9 +26,6 @@ pub const GO_ON: u8 = 0xFE;
 
 pub const HALT: u8 = 0xFD;
 
-// The least type byte of a pointer.
-const POINTER: u8 = 0x10;
-
 // ---- types
 // Whether a cell's value is of this type.
 pub fn has_type(t: u8, c: Cell) -> bool
@@ -36,7 +34,7 @@ pub fn has_type(t: u8, c: Cell) -> bool
     let kind = c.kind;
     match kind {
         0..=2 => t == kind,
-        3 => (t == 3) & read_shapes::scalar(c.word),
+        3 => t == engine_cells::CHAR && read_shapes::scalar(c.word),
         4 => t == record::FLOAT,
         5..=15 => false,
         _ => t == kind,
@@ -47,7 +45,7 @@ pub fn has_type(t: u8, c: Cell) -> bool
 fn value_type(kind: u8) -> bool
     ensures { result ≡ value_type kind }
 {
-    (kind == engine_cells::HELD) | (kind % 16 <= 3)
+    kind == engine_cells::HELD || kind % 16 <= 3
 }
 
 // ---- values
@@ -70,7 +68,7 @@ fn one_word(s: &[u8], at: usize, kind: u8) -> Option<Item>
     ensures { ReadAs (value_behind kind s.now at) result × KindAs kind result }
 {
     let (word, end) = read_fields::field_at::<8>(s, at).ok()?;
-    read_shapes::literal_test((kind % 4) as u64, word).ok()?;
+    read_shapes::literal_test(u64::from(kind % 4), word).ok()?;
     Some(Item {
         cell: Cell {
             kind,
@@ -81,12 +79,14 @@ fn one_word(s: &[u8], at: usize, kind: u8) -> Option<Item>
     })
 }
 
-// What stands behind the type byte of a value.
+// What stands behind the type byte of a value, if it is one.
 fn value_behind(s: &[u8], at: usize, kind: u8) -> Option<Item>
-    requires { T (value_type kind) }
-    ensures { ReadAs (value_behind kind s.now at) result × KindAs kind result }
+    ensures { BehindAs (value_type kind) kind (value_behind kind s.now at) result }
 {
-    if POINTER <= kind {
+    if !value_type(kind) {
+        return None;
+    }
+    if engine_cells::POINTER <= kind {
         return two_words(s, at, kind);
     }
     one_word(s, at, kind)
@@ -100,86 +100,58 @@ fn opens(s: &[u8]) -> bool
     if s.len() < 5 {
         return false;
     }
-    (read_fields::be::<4>(s, 0) as usize == s.len() - 4) & (read_fields::byte_or(s, 4) == 1)
-}
-
-// An item of one byte, which ends behind it.
-fn byte_item(kind: u8, at: usize) -> Item
-    requires { at + 1 < places }
-    ensures { result ≡ record { cell = record { kind = kind; word = 0; offset = 0 }; end = at + 1 } }
-{
-    Item {
-        cell: Cell {
-            kind,
-            word: 0,
-            offset: 0,
-        },
-        end: at + 1,
-    }
+    read_fields::be::<4>(s, 0) as usize == s.len() - 4 && read_fields::byte_or(s, 4) == 1
 }
 
 // A value of the store, which has to be of type t, or nothing.
 fn stored_at(s: &[u8], at: usize, t: u8) -> Option<Item>
     ensures { StoredAs t (stored_value s.now at) result }
 {
-    if at >= s.len() {
-        return None;
-    }
-    let kind = s[at];
+    let kind = *s.get(at)?;
     if kind == engine_cells::NOTHING {
-        return Some(byte_item(kind, at));
-    }
-    if !value_type(kind) {
-        return None;
+        return Some(Item {
+            cell: engine_cells::NO_CELL,
+            end: at + 1,
+        });
     }
     let item = value_behind(s, at + 1, kind)?;
-    if has_type(t, item.cell) {
-        Some(item)
-    } else {
-        None
-    }
+    has_type(t, item.cell).then_some(item)
 }
 
-// A store of names of these types, if it reads and each value is of its name's type.
-pub fn read_store(s: &[u8], types: &[u8]) -> Option<Cells>
-    requires { length types.now ≤ 256 }
-    ensures { StoreAs types.now (stored (length types.now) s.now 0) result }
+// A store of names of these types put into cells of which none is set, if it reads and each value is of its name's type.
+pub fn read_store<const N: usize>(s: &[u8], types: &[u8], cells: &mut Cells<N>) -> Option<()>
+    requires blank { Blank cells.old }
+    requires named { length types.now ≤ N }
+    ensures { StoreAs types.now (stored (length types.now) s.now 0) cells.new result }
 {
     if !opens(s) {
         return None;
     }
-    let mut cells = Cells::new();
     let mut p = 5;
     for (i, t) in types.iter().enumerate() {
         let item = stored_at(s, p, *t)?;
         cells.set_cell(i as u64, item.cell);
         p = item.end;
     }
-    if p >= s.len() { Some(cells) } else { None }
+    (p >= s.len()).then_some(())
 }
 
 // Whether a byte stands alone in a list of answers.
 fn alone(kind: u8) -> bool
     ensures { result ≡ (eqb kind go_on_byte || eqb kind halt_byte) }
 {
-    (kind == GO_ON) | (kind == HALT)
+    kind == GO_ON || kind == HALT
 }
 
-// An answer.
-fn answer_at(s: &[u8], at: usize) -> Option<Item>
-    ensures { AnswerAs (house_answer s.now at) result }
+// The place behind an answer.
+fn answer_at(s: &[u8], at: usize) -> Option<usize>
+    ensures { EndAs (house_answer s.now at) result }
 {
-    if at >= s.len() {
-        return None;
-    }
-    let kind = s[at];
+    let kind = *s.get(at)?;
     if alone(kind) {
-        return Some(byte_item(kind, at));
+        return Some(at + 1);
     }
-    if !value_type(kind) {
-        return None;
-    }
-    value_behind(s, at + 1, kind)
+    Some(value_behind(s, at + 1, kind)?.end)
 }
 
 // A list of answers: how many it has, if it reads.
@@ -193,42 +165,64 @@ pub fn read_answers(s: &[u8]) -> Option<usize>
     let mut n = 0;
     // How many answers there are is not known before they are read, so nothing is counted up to.
     while p < s.len() {
-        p = answer_at(s, p)?.end;
+        p = answer_at(s, p)?;
         n += 1;
     }
     Some(n)
 }
 
 // ---- answers a second time
-// The answer at a place of a list that was read: its first byte, and the words behind it, where it has them.
-pub fn answer_again(s: &[u8], at: usize) -> Cell
-    requires { at + 17 < places }
-    ensures { result ≡ record { kind = num_at s.now at 1; word = num_at s.now (at + 1) 8; offset = num_at s.now (at + 1 + 8) 8 } }
-{
-    Cell {
-        kind: read_fields::byte_or(s, at) as u8,
-        word: read_fields::be::<8>(s, at + 1),
-        offset: read_fields::be::<8>(s, at + 1 + 8),
-    }
+// An answer of the world.
+#[derive(Clone, Copy, PartialEq, Eq, Debug)]
+pub enum Answer {
+    GoOn,
+    Halt,
+    Value(Cell),
 }
 
-// The place behind the answer with this first byte.
-pub fn answer_end(kind: u8, at: usize) -> usize
+// at + 17 < places, that a value from there on ends at a place: answer_again and end ask it of a place of the list, put_held of one of the
+// output, so no type could keep it for them all.
+// The answer at a place of a list that was read.
+pub fn answer_again(s: &[u8], at: usize) -> Answer
     requires { at + 17 < places }
-    ensures { (result ≡ end_by kind at) × (result ≤ at + 17) }
+    ensures { result ≡ answer_there s.now at }
 {
-    if alone(kind) {
-        return at + 1;
+    let kind = read_fields::byte_or(s, at) as u8;
+    if kind == GO_ON {
+        return Answer::GoOn;
     }
-    if POINTER <= kind {
-        return at + 1 + 8 + 8;
+    if kind == HALT {
+        return Answer::Halt;
     }
-    at + 1 + 8
+    Answer::Value(Cell {
+        kind,
+        word: read_fields::be::<8>(s, at + 1),
+        offset: read_fields::be::<8>(s, at + 1 + 8),
+    })
+}
+
+impl Answer {
+    // The place behind it, if it stands at this one.
+    pub fn end(self, at: usize) -> usize
+        requires { at + 17 < places }
+        ensures { (result ≡ end_of self at) × (result ≤ at + 17) }
+    {
+        match self {
+            Answer::GoOn => at + 1,
+            Answer::Halt => at + 1,
+            Answer::Value(c) => {
+                if engine_cells::POINTER <= c.kind {
+                    return at + 1 + 8 + 8;
+                }
+                at + 1 + 8
+            }
+        }
+    }
 }
 
 // ---- a store written
 // What a name holds, or nothing; the place behind it.
-fn put_held(cells: &Cells, x: u64, out: &mut [u8], at: usize) -> usize
+fn put_held<const N: usize>(cells: &Cells<N>, x: u64, out: &mut [u8], at: usize) -> usize
     requires { at + 17 < places }
     ensures { Wrote out.old out.new at result (stored_bytes (store_in cells.now (nm x))) × (result ≤ at + 17) }
 {
@@ -240,7 +234,7 @@ fn put_held(cells: &Cells, x: u64, out: &mut [u8], at: usize) -> usize
 }
 
 // What the first n names hold, from a place on; the place behind it.
-fn put_cells(cells: &Cells, n: u64, out: &mut [u8], at: usize) -> usize
+fn put_cells<const N: usize>(cells: &Cells<N>, n: u64, out: &mut [u8], at: usize) -> usize
     requires { (n ≤ 256) × (at + 17 * n + 17 < places) }
     ensures { Wrote out.old out.new at result (values_held cells.now 0 n) × (result ≤ at + 17 * n) }
 {
@@ -252,7 +246,7 @@ fn put_cells(cells: &Cells, n: u64, out: &mut [u8], at: usize) -> usize
 }
 
 // The store of n names with its length and version; how many bytes it has.
-pub fn put_store(cells: &Cells, n: u64, out: &mut [u8]) -> usize
+pub fn put_store<const N: usize>(cells: &Cells<N>, n: u64, out: &mut [u8]) -> usize
     requires { n ≤ 256 }
     ensures { Wrote out.old out.new 0 result (store_bytes (values_from (store_in cells.now) 0 n)) }
 {

@@ -1,12 +1,10 @@
 -- What an operation gives by what its operands hold: the operator applied to them, or unset where one is not set or is of another type.
 use Prim.Native.Nat.{ℕ, ◌<◌, ◌≤◌}
 use mathlib.Core.Path.{◌≡◌, refl, sym, ap, ◌∙◌}
-use mathlib.Core.Logic.{◌≢◌}
-use mathlib.Core.Bool.{Bool, true, false, not, ◌||◌}
+use mathlib.Core.Logic.{◌≢◌, ◌⊎◌, inl, inr}
+use mathlib.Core.Bool.{Bool, not}
 use mathlib.Core.Option.{Option, none, some}
 use native.Mathlib.Omega.{arith}
-use lib.Dec.{leb, eqb}
-use borrow.Author.Tests.{leb-true, leb-false, eqb-true, eqb-false}
 use Rattle.std.proofs.Common.{None, Some}
 use Rattle.arith.specs.declared.One.TheVariants.{Not, Id}
 use Rattle.arith.specs.declared.Two.{Two}
@@ -15,7 +13,6 @@ use Rattle.arith.specs.Code.{one_of, two_of}
 use Rattle.arith.specs.Word.{add_w}
 use Rattle.arith.specs.Value.{Val, int, bool, pointer}
 use Rattle.arith.specs.Operation.{Result, ok, unset, as_int, as_bool, with_one, with_both, shift, apply1, apply2, one, two, eval}
-use Rattle.arith.proofs.Clash.{clash}
 use Rattle.record.specs.declared.NameIx.{NameIx}
 use Rattle.machine.specs.Machine.{Store}
 use Rattle.running.specs.House.{held, nothing_byte}
@@ -129,39 +126,26 @@ module _ (σ : Store) where
       unfolding eval
       no_pointer_nothing h = no_first (apply2 PtrAdd) (σ x) (σ y) (e ∙ held_none c.kind c.word c.offset h)
 
-      pub no_pointer : (leb c.kind held || eqb c.kind nothing_byte) ≡ true → both PtrAdd ≡ unset
-      no_pointer t = go (leb c.kind held) refl t
-        where
-          go : (b : Bool) → leb c.kind held ≡ b → (b || eqb c.kind nothing_byte) ≡ true → both PtrAdd ≡ unset
-          go true p f = no_pointer_value (leb-true c.kind held p)
-          go false p f = no_pointer_nothing (eqb-true c.kind nothing_byte f)
+      pub no_pointer : (c.kind ≤ held) ⊎ ((held < c.kind) × (c.kind ≡ nothing_byte)) → both PtrAdd ≡ unset
+      no_pointer (inl h) = no_pointer_value h
+      no_pointer (inr h) = no_pointer_nothing h.1
 
       pub no_offset : None ≡ int_held (σ y) → both PtrAdd ≡ unset
       unfolding apply2 with_one
       no_offset n = both_unset PtrAdd (λ u v p q. rw (is_no_int (σ y) v n q))
 
-      is_pointer : (leb c.kind held || eqb c.kind nothing_byte) ≡ false → (held < c.kind) × (c.kind ≢ nothing_byte)
-      is_pointer t = go (leb c.kind held) refl t
-        where
-          go : (b : Bool) → leb c.kind held ≡ b → (b || eqb c.kind nothing_byte) ≡ false → (held < c.kind) × (c.kind ≢ nothing_byte)
-          go true p f = clash (cc f)
-          go false p f = (leb-false c.kind held p, eqb-false c.kind nothing_byte f)
-
       -- k: the int by which the pointer is moved, o: its offset then
       module _
-          (k o : ℕ) (t : (leb c.kind held || eqb c.kind nothing_byte) ≡ false) (f : Some k ≡ int_held (σ y)) (s : o ≡ add_w c.offset k) where
+          (k o : ℕ) (p : held < c.kind) (n : c.kind ≢ nothing_byte) (f : Some k ≡ int_held (σ y)) (s : o ≡ add_w c.offset k) where
         pub moved_by : both PtrAdd ≡ ok (pointer c.kind c.word o)
         unfolding apply2 as_int with_one shift
         moved_by =
-            let (p, n) = is_pointer t in
             applied PtrAdd (pointer c.kind c.word c.offset) (int k)
             (e ∙ held_some c.kind c.word c.offset n ∙ ap some (by_pointer c.kind c.word c.offset p)) (is_int (σ y) k f) ∙
             ap (λ (m : ℕ). ok (pointer c.kind c.word m)) (sym s)
 
         pub moved_cell : cell_holds (record { kind = c.kind; word = c.word; offset = o }) ≡ some (pointer c.kind c.word o)
-        moved_cell =
-            let (p, n) = is_pointer t in
-            held_some c.kind c.word o n ∙ ap some (by_pointer c.kind c.word o p)
+        moved_cell = held_some c.kind c.word o n ∙ ap some (by_pointer c.kind c.word o p)
 
   -- ---- the operators of one operand
   module _ (x : NameIx) where

@@ -40,7 +40,7 @@ module _ (t : ℕ) where
 -- ---- the literal of an instruction, set
 -- d: its name, t: the type of that, n: the literal's kind, w: its word, k: the type byte of its cell
 pub literal_set :
-    (before after : Cells) (s types : List ℕ) (at d t n w k : ℕ) →
+    {N : ℕ} (before after : Cells N) (s types : List ℕ) (at d t n w k : ℕ) →
     d ≡ num_at s at 2 →
     t ≡ get_or types d 0 →
     n ≡ num_at s (at + 2) 1 →

@@ -37,7 +37,7 @@ unfolding told
 told_unset f e = ap Err f ∙ sym (ap told e)
 
 -- ---- what became of the cells
-pub works_none : (cells : Cells) (d : NameIx) (p : Result) (k : Stop) → Err k ≡ told p → Works cells cells d p (Err k)
+pub works_none : {N : ℕ} (cells : Cells N) (d : NameIx) (p : Result) (k : Stop) → Err k ≡ told p → Works cells cells d p (Err k)
 unfolding Works told
 works_none cells d (ok v) k e = absurd (cc e)
 works_none cells d (stops c) k e = let f : k ≡ Division = cc e in (ap Err f, refl)
@@ -45,7 +45,7 @@ works_none cells d unset k e = let f : k ≡ Unset = cc e in (ap Err f, refl)
 
 -- u: what the cell holds that was put into dest's place
 pub works_some :
-    (before after : Cells) (d : NameIx) (p : Result) (u : Option Val) →
+    {N : ℕ} (before after : Cells N) (d : NameIx) (p : Result) (u : Option Val) →
     Ok u ≡ told p →
     store_in after ≡ upd NameIx-discrete (store_in before) d u →
     Works before after d p (Ok tt)

@@ -38,7 +38,7 @@ cells_held (Ok c) = Ok (cell_holds c)
 cells_held (Err e) = Err e
 
 -- a result put into dest's cell; where there is none, no cell changes
-unfoldable pub Works : Cells → Cells → NameIx → Result → CodeResult Unit Stop → Type 0
+unfoldable pub Works : {N : ℕ} → Cells N → Cells N → NameIx → Result → CodeResult Unit Stop → Type 0
 Works before after d (ok v) r = (r ≡ Ok tt) × (store_in after ≡ upd NameIx-discrete (store_in before) d (some v))
 Works before after d (stops c) r = (r ≡ Err Division) × (after ≡ before)
 Works before after d unset r = (r ≡ Err Unset) × (after ≡ before)
@@ -62,6 +62,6 @@ apply_by none x y = unset
 abbrev pub operands : ℕ → ℕ
 operands code = (shape_of code).few
 
--- ---- so many bytes of operands lie in the record, and dest has a cell
-abbrev pub Lies : List ℕ → ℕ → ℕ → Type 0
-Lies s at n = (at + n ≤ length s) × (num_at s at 2 < 256)
+-- ---- so many bytes of operands lie in the record, and dest has one of the N cells
+abbrev pub Lies : ℕ → List ℕ → ℕ → ℕ → Type 0
+Lies N s at n = (at + n ≤ length s) × (num_at s at 2 < N)

@@ -1,5 +1,7 @@
 // What const and the codes 1 to 14 do to the store: their operands read from the cells, the result put into dest's cell.
-// at: the place behind an instruction's code, where dest stands.
+// at: the place behind an instruction's code, where dest stands. A code is matched as it stands in the record: an Op made of it first would
+// be matched once more at each step.
+// as: a number that is known to fit, or u64 and usize, which have no From; try_from would hand out an error that cannot be.
 #![tactic(auto)]
 
 ghost use Rattle.std.specs.Prelude.{◌≡◌, ℕ, ◌+◌, ◌*◌, ◌<◌, ◌≤◌, length};
@@ -23,34 +25,13 @@ ghost use Rattle.engine_pure.specs.Works.{Works, told, ints_held, cells_held, ex
 use engine_cells::{Cell, Cells};
 
 // Why an operation gives no value: a division by 0, or an operand that is not set.
-#[derive(Clone, Copy)]
+#[derive(Clone, Copy, PartialEq, Eq, Debug)]
 pub enum Stop {
     Division,
     Unset,
 }
 
-// ---- operands, whose names stand at a place
-// An int.
-fn int_at(s: &[u8], at: usize, cells: &Cells) -> Result<u64, Stop>
-    requires { at + 1 < length s.now }
-    ensures { result ≡ ok_or (int_held (store_in cells.now (index_from s.now at))) Stop.Unset }
-{
-    cells
-        .int(read_fields::number_of::<2>(s, at))
-        .ok_or(Stop::Unset)
-}
-
-// A bool.
-fn bool_at(s: &[u8], at: usize, cells: &Cells) -> Result<bool, Stop>
-    requires { at + 1 < length s.now }
-    ensures { result ≡ ok_or (bool_held (store_in cells.now (index_from s.now at))) Stop.Unset }
-{
-    cells
-        .bool(read_fields::number_of::<2>(s, at))
-        .ok_or(Stop::Unset)
-}
-
-// ---- operations
+// ---- operations of words
 // div
 fn divide(a: u64, b: u64) -> Result<u64, Stop>
     ensures { ints_held result ≡ told (divide a b) }
@@ -85,90 +66,128 @@ fn compared(code: u64, a: u64, b: u64) -> bool
     }
 }
 
-// add to ge, of two ints
-fn of_ints(s: &[u8], at: usize, code: u64, cells: &Cells) -> Result<Cell, Stop>
-    requires { ((1 ≤ code) × (code ≤ 9)) × (at + 7 ≤ length s.now) }
-    ensures { cells_held result ≡ told (eval (store_in cells.now) (expr_at code s.now at)) }
-{
-    let a = int_at(s, at + 3, cells)?;
-    let b = int_at(s, at + 5, cells)?;
-    if code < 5 {
-        return Ok(Cell::int(sum(code, a, b)?));
+// ---- operations of cells
+// An operation of the codes 1 to 14, whose operands lie in the record.
+#[derive(Clone, Copy)]
+struct Operation<'a> {
+    s: &'a [u8],
+    at: usize,
+    code: u64,
+    ghost least: { 1 ≤ code },
+    ghost inside: { at + (3 + 2 * operands code) ≤ length s.now },
+}
+
+impl<'a> Operation<'a> {
+    // The int that the name at a place holds.
+    fn int<const N: usize>(self, place: usize, cells: &Cells<N>) -> Result<u64, Stop>
+        requires { place + 1 < length self.s.now }
+        ensures { result ≡ ok_or (int_held (store_in cells.now (index_from self.entry.s.now place))) Stop.Unset }
+    {
+        cells
+            .int(read_fields::number_of::<2>(self.s, place))
+            .ok_or(Stop::Unset)
     }
-    Ok(Cell::bool(compared(code, a, b)))
-}
 
-// and and or, of two bools
-fn of_bools(s: &[u8], at: usize, code: u64, cells: &Cells) -> Result<Cell, Stop>
-    requires { ((11 ≤ code) × (code ≤ 12)) × (at + 7 ≤ length s.now) }
-    ensures { cells_held result ≡ told (eval (store_in cells.now) (expr_at code s.now at)) }
-{
-    let a = bool_at(s, at + 3, cells)?;
-    let b = bool_at(s, at + 5, cells)?;
-    if code == 11 {
-        return Ok(Cell::bool(a & b));
+    // The bool that the name at a place holds.
+    fn bool<const N: usize>(self, place: usize, cells: &Cells<N>) -> Result<bool, Stop>
+        requires { place + 1 < length self.s.now }
+        ensures { result ≡ ok_or (bool_held (store_in cells.now (index_from self.entry.s.now place))) Stop.Unset }
+    {
+        cells
+            .bool(read_fields::number_of::<2>(self.s, place))
+            .ok_or(Stop::Unset)
     }
-    Ok(Cell::bool(a | b))
-}
 
-// not
-fn negate(s: &[u8], at: usize, cells: &Cells) -> Result<Cell, Stop>
-    requires { at + 5 ≤ length s.now }
-    ensures { cells_held result ≡ told (eval (store_in cells.now) (one Not (index_from s.now (at + 3)))) }
-{
-    Ok(Cell::bool(!bool_at(s, at + 3, cells)?))
-}
-
-// id
-fn copy(s: &[u8], at: usize, cells: &Cells) -> Result<Cell, Stop>
-    requires { at + 5 ≤ length s.now }
-    ensures { cells_held result ≡ told (eval (store_in cells.now) (one Id (index_from s.now (at + 3)))) }
-{
-    let c = cells.get(read_fields::number_of::<2>(s, at + 3));
-    if c.kind == engine_cells::NOTHING {
-        return Err(Stop::Unset);
+    // add to ge, of two ints
+    fn of_ints<const N: usize>(self, cells: &Cells<N>) -> Result<Cell, Stop>
+        requires { self.code ≤ 9 }
+        ensures { cells_held result ≡ told (eval (store_in cells.now) (expr_at self.entry.code self.entry.s.now self.entry.at)) }
+    {
+        let a = self.int(self.at + 3, cells)?;
+        let b = self.int(self.at + 5, cells)?;
+        if self.code < 5 {
+            return Ok(Cell::int(sum(self.code, a, b)?));
+        }
+        Ok(Cell::bool(compared(self.code, a, b)))
     }
-    Ok(c)
-}
 
-// ptradd
-fn shift(s: &[u8], at: usize, cells: &Cells) -> Result<Cell, Stop>
-    requires { at + 7 ≤ length s.now }
-    ensures { cells_held result ≡ told (eval (store_in cells.now) (two PtrAdd (index_from s.now (at + 3)) (index_from s.now (at + 5)))) }
-{
-    let p = cells.get(read_fields::number_of::<2>(s, at + 3));
-    if (p.kind <= engine_cells::HELD) | (p.kind == engine_cells::NOTHING) {
-        return Err(Stop::Unset);
+    // and and or, of two bools, both of which are there: && and || would only add a branch.
+    fn of_bools<const N: usize>(self, cells: &Cells<N>) -> Result<Cell, Stop>
+        requires { (11 ≤ self.code) × (self.code ≤ 12) }
+        ensures { cells_held result ≡ told (eval (store_in cells.now) (expr_at self.entry.code self.entry.s.now self.entry.at)) }
+    {
+        let a = self.bool(self.at + 3, cells)?;
+        let b = self.bool(self.at + 5, cells)?;
+        if self.code == 11 {
+            return Ok(Cell::bool(a & b));
+        }
+        Ok(Cell::bool(a | b))
     }
-    let k = int_at(s, at + 5, cells)?;
-    Ok(Cell {
-        offset: words::add(p.offset, k),
-        ..p
-    })
-}
 
-// The value of the codes 1 to 14. not and id have one operand, the others two. A match, since a table of functions has to be made and called
-// through at each step.
-fn value(s: &[u8], at: usize, code: u64, cells: &Cells) -> Result<Cell, Stop>
-    requires { ((1 ≤ code) × (code ≤ 14)) × (at + (3 + 2 * operands code) ≤ length s.now) }
-    ensures { cells_held result ≡ told (eval (store_in cells.now) (expr_at code s.now at)) }
-{
-    match code {
-        0..=9 => of_ints(s, at, code, cells),
-        10 => negate(s, at, cells),
-        11..=12 => of_bools(s, at, code, cells),
-        13 => copy(s, at, cells),
-        _ => shift(s, at, cells),
+    // not
+    fn negate<const N: usize>(self, cells: &Cells<N>) -> Result<Cell, Stop>
+        requires { self.code ≡ 10 }
+        ensures { cells_held result ≡ told (eval (store_in cells.now) (expr_at self.entry.code self.entry.s.now self.entry.at)) }
+    {
+        Ok(Cell::bool(!self.bool(self.at + 3, cells)?))
+    }
+
+    // id
+    fn copy<const N: usize>(self, cells: &Cells<N>) -> Result<Cell, Stop>
+        requires { self.code ≡ 13 }
+        ensures { cells_held result ≡ told (eval (store_in cells.now) (expr_at self.entry.code self.entry.s.now self.entry.at)) }
+    {
+        let c = cells.get(read_fields::number_of::<2>(self.s, self.at + 3));
+        if c.kind == engine_cells::NOTHING {
+            return Err(Stop::Unset);
+        }
+        Ok(c)
+    }
+
+    // ptradd
+    fn shift<const N: usize>(self, cells: &Cells<N>) -> Result<Cell, Stop>
+        requires { self.code ≡ 14 }
+        ensures { cells_held result ≡ told (eval (store_in cells.now) (expr_at self.entry.code self.entry.s.now self.entry.at)) }
+    {
+        let p = cells.get(read_fields::number_of::<2>(self.s, self.at + 3));
+        if p.kind <= engine_cells::HELD || p.kind == engine_cells::NOTHING {
+            return Err(Stop::Unset);
+        }
+        let k = self.int(self.at + 5, cells)?;
+        Ok(Cell {
+            offset: words::add(p.offset, k),
+            ..p
+        })
+    }
+
+    // The value that it gives. not and id have one operand, the others two. A match, since a table of functions has to be made and called
+    // through at each step.
+    fn value<const N: usize>(self, cells: &Cells<N>) -> Result<Cell, Stop>
+        requires { self.code ≤ 14 }
+        ensures { cells_held result ≡ told (eval (store_in cells.now) (expr_at self.entry.code self.entry.s.now self.entry.at)) }
+    {
+        match self.code {
+            0..=9 => self.of_ints(cells),
+            10 => self.negate(cells),
+            11..=12 => self.of_bools(cells),
+            13 => self.copy(cells),
+            _ => self.shift(cells),
+        }
     }
 }
 
 // Codes 1 to 14.
-pub fn operate(s: &[u8], at: usize, code: u64, cells: &mut Cells) -> Result<(), Stop>
-    requires { ((1 ≤ code) × (code ≤ 14)) × Lies s.now at (3 + 2 * operands code) }
+pub fn operate<const N: usize>(
+    s: &[u8],
+    at: usize,
+    code: u64,
+    cells: &mut Cells<N>,
+) -> Result<(), Stop>
+    requires { ((1 ≤ code) × (code ≤ 14)) × Lies N s.now at (3 + 2 * operands code) }
     ensures { Works cells.old cells.new (index_from s.now at)
         (eval (store_in cells.old) (expr_at code s.now at)) result }
 {
-    let c = value(s, at, code, cells)?;
+    let c = Operation { s, at, code }.value(cells)?;
     cells.set_cell(read_fields::number_of::<2>(s, at), c);
     Ok(())
 }
@@ -180,7 +199,7 @@ fn literal_kind(kind: u64, t: u64) -> u8
     ensures { ((x : ℕ) → plain_from result x ≡ value_of t kind x) × (result ≤ held) }
 {
     if kind == 0 {
-        return if t == record::FLOAT as u64 {
+        return if t == u64::from(record::FLOAT) {
             engine_cells::HELD
         } else {
             engine_cells::INT
@@ -190,8 +209,8 @@ fn literal_kind(kind: u64, t: u64) -> u8
 }
 
 // const; its literal passes check's tests.
-pub fn constant(s: &[u8], at: usize, types: &[u8], cells: &mut Cells)
-    requires { (num_at s.now (at + 2) 1 ≤ 3) × Lies s.now at 11 }
+pub fn constant<const N: usize>(s: &[u8], at: usize, types: &[u8], cells: &mut Cells<N>)
+    requires { (num_at s.now (at + 2) 1 ≤ 3) × Lies N s.now at 11 }
     ensures { store_in cells.new ≡
         upd NameIx-discrete (store_in cells.old) (index_from s.now at)
         (some (value_of (type_in types.now (index_from s.now at)) (num_at s.now (at + 2) 1) (num_at s.now (at + 3) 8))) }

@@ -38,4 +38,4 @@ module _ (s : List ℕ) (at n : ℕ) (sound : Sound s at n) (h : 0 < n) where
 
 -- ---- a spot with instructions left
 pub code_inside : {g : Ground} {p : Spot} → Facing g p → p.at + g.w + 1 ≤ length g.s.now
-code_inside {g} {p} f = omega (arith, head_inside g.s.now p.at p.left f.standing.sound f.some, f.grounded.width)
+code_inside {g} {p} f = omega (arith, head_inside g.s.now p.at p.left f.standing.sound f.standing.some, f.grounded.width)

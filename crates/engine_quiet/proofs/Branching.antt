@@ -3,7 +3,7 @@ use Prim.Native.Nat.{ℕ, ◌+◌}
 use mathlib.Core.Path.{◌≡◌, refl, ap}
 use mathlib.Core.Bool.{Bool, true, false}
 use mathlib.Core.Option.{Option, none, some}
-use Rattle.std.proofs.Common.{None, Some}
+use Rattle.std.proofs.Common.{None, Some, Err}
 use Rattle.arith.specs.Value.{Val}
 use Rattle.arith.specs.Operation.{as_bool}
 use Rattle.record.specs.Record.{nm, type_in}
@@ -21,7 +21,7 @@ use Rattle.engine_quiet.specs.declared.Spot.{Spot}
 use Rattle.engine_quiet.specs.Spot.{blocks_of, code_at, Facing, Landed, Moved}
 use Rattle.engine_quiet.proofs.Bodies.{first_passes}
 use Rattle.engine_quiet.proofs.Forms.{branch_form}
-use Rattle.engine_quiet.proofs.Moved.{here, over_at, branch_moved, branch_unset}
+use Rattle.engine_quiet.proofs.Moved.{Run, here, branch_moved, branch_unset}
 
 -- ---- what is held as a condition
 no_bool : (o : Option Val) → None ≡ bool_held o → bool_in o ≡ none
@@ -34,16 +34,16 @@ a_bool o b e = ap bool_in (is_bool o b e)
 
 -- ---- x: the index of the name; row: the place behind the code
 module _
-    (g : Ground) (before : Cells) (p : Spot) (facing : Facing g p) (code : code_at g.s.now p.at ≡ 65)
-    (row : ℕ) (er : row ≡ p.at + g.w + 1) (x : ℕ) (ex : x ≡ num_at g.s.now (row + 1) 2) (r : Spot) where
+    (g : Ground) (before : Cells 256) (p : Spot) (facing : Facing g p) (code : code_at g.s.now p.at ≡ 65)
+    (row : ℕ) (er : row ≡ p.at + g.w + 1) (x : ℕ) (ex : x ≡ num_at g.s.now (row + 1) 2) (r : Run) where
   formed : form (type_in g.types.now) (here g.s.now p) ≡ branch (nm x) (num_at g.s.now (row + 3) 2) (num_at g.s.now (row + 5) 2)
   unfolding index_from
   formed =
       rw (ex, er, facing.grounded.width)
       (branch_form (id_width g.s.now) g.s.now p.at (names_count g.s.now)
-      (first_passes g.s.now p.at p.left facing.standing.sound facing.some) (type_in g.types.now) code)
+      (first_passes g.s.now p.at p.left facing.standing.sound facing.standing.some) (type_in g.types.now) code)
 
-  pub branch_lacks : None ≡ bool_held (store_in before (nm x)) → r ≡ over_at g.s.now p Unset → Moved g before before p r
+  pub branch_lacks : None ≡ bool_held (store_in before (nm x)) → r ≡ Err Unset → Moved g before before p r
   branch_lacks n eq = branch_unset g before p facing r (nm x) _ _ formed (no_bool (store_in before (nm x)) n) eq
 
   pub branch_first :

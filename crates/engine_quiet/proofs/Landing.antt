@@ -4,18 +4,20 @@ use mathlib.Core.Path.{◌≡◌, refl, sym, ap, ◌∙◌}
 use mathlib.Core.List.{List, [], ◌∷◌, map}
 use native.Mathlib.Omega.{arith}
 use lib.ListN.{length, get_or, drop}
+use Rattle.std.proofs.Common.{Result, Ok, Err}
 use Rattle.record.specs.Record.{Instr, Block}
 use Rattle.record.specs.Reader.{num_at}
-use Rattle.record.specs.Decode.{items, behind, id_width, instr_from, instr_end}
-use Rattle.record.specs.Again.{instrs_from, instrs_end, block_in}
+use Rattle.record.specs.Decode.{items, id_width, instr_from, instr_end}
+use Rattle.record.specs.Again.{instrs_from, block_in}
 use Rattle.record.proofs.Again.{instrs_more}
 use Rattle.record.proofs.Ends.{block_body}
 use Rattle.machine.specs.Machine.{at_end}
 use Rattle.running.specs.Steps.{Stand, facing, over, first_of, land_in, land}
 use Rattle.engine_quiet.specs.declared.Ground.{Ground}
+use Rattle.engine_quiet.specs.declared.Over.{Over}
 use Rattle.engine_quiet.specs.declared.Over.TheVariants.{End}
 use Rattle.engine_quiet.specs.declared.Spot.{Spot}
-use Rattle.engine_quiet.specs.Spot.{stop_by, body_at, blocks_of, Sound, Grounded, Standing, Landed}
+use Rattle.engine_quiet.specs.Spot.{stop_by, body_at, blocks_of, Laid, Before, Landed}
 use Rattle.engine_quiet.proofs.Bodies.{rest_sound}
 
 -- ---- the table
@@ -49,18 +51,6 @@ module _ (s : List ℕ) (b at n : ℕ) where
   pub first_none : (d : Stand) → n ≡ 0 → first_of b (body_at s at n) d ≡ d
   unfolding instrs_from items
   first_none d z = ap (λ (k : ℕ). first_of b (body_at s at k) d) z
-
--- none is sound where a run is over
-pub none_sound : (s : List ℕ) (at : ℕ) → at ≤ length s → Sound s at 0
-unfolding instrs_from items instrs_end behind
-none_sound s at h = record { passing = tt; inside = h }
-
-pub over_stands : (g : Ground) (p : Spot) → p.left ≡ 0 → p.at ≤ length g.s.now → Standing g p
-over_stands g p z h =
-    record {
-      sound = rw z (none_sound g.s.now p.at h);
-      placed = λ some. absurd (omega (arith, z, some));
-    }
 
 -- ---- from a block on
 module _ (g : Ground) where
@@ -97,38 +87,38 @@ module _ (g : Ground) where
       pub land_empty : n ≡ 0 → lands (c + 1) ≡ lands b
       land_empty z = sym (first_none s c (q + 2 + 2) n (lands (c + 1)) z) ∙ sym there ∙ same
 
-      pub land_found : Grounded g → 0 < n → Landed g (lands b) (record { block = c; at = q + 2 + 2; left = n; stop = End })
-      land_found ground some =
+      pub land_found : Laid g → 0 < n → Landed g (lands b) (Ok (record { block = c; at = q + 2 + 2; left = n }))
+      land_found laid some =
           record {
             stand = first_any s c (q + 2 + 2) n _ _ some ∙ sym there ∙ same;
-            standing = record { sound = rw (en, eq) (ground.each c h); placed = λ l. h };
+            standing = record { sound = rw (en, eq) (laid.each c h); placed = h; some = some };
             stop = λ e. cc e;
           }
 
-    pub land_ended : length starts ≤ c → Landed g (lands b) (record { block = b; at = 0; left = 0; stop = End })
-    unfolding instrs_from items stop_by
-    land_ended h =
-        record {
-          stand = sym (land_past c h) ∙ same;
-          standing = over_stands g _ refl (omega arith);
-          stop = λ e. cc e;
-        }
+    pub land_ended : length starts ≤ c → Landed g (lands b) (Err End)
+    unfolding stop_by
+    land_ended h = record { stand = sym (land_past c h) ∙ same; standing = tt; stop = λ e. cc e }
 
   -- the next of a block's instructions
-  module _ (p : Spot) (st : Standing g p) (h : 0 < p.left) (next : ℕ) (e : next ≡ instr_end (id_width s) s p.at) where
+  module _ (p : Spot) (st : Before g p) (next : ℕ) (e : next ≡ instr_end (id_width s) s p.at) where
     pub went_on :
         (d : Stand) → 1 < p.left →
         Landed g (first_of p.block (body_at s next (p.left - 1)) d)
-        (record { block = p.block; at = next; left = p.left - 1; stop = End })
+        (Ok (record { block = p.block; at = next; left = p.left - 1 }))
     went_on d more =
         record {
           stand = first_any s p.block next (p.left - 1) _ _ (omega (arith, more));
-          standing = record { sound = rw e (rest_sound s p.at p.left st.sound h); placed = λ l. st.placed h };
+          standing =
+              record {
+                sound = rw e (rest_sound s p.at p.left st.sound st.some);
+                placed = st.placed;
+                some = omega (arith, more);
+              };
           stop = λ e. cc e;
         }
 
     -- there is none
     pub went_past :
-        (r : Spot) (d : Stand) → p.left ≤ 1 → Landed g d r →
+        (r : Result Spot Over) (d : Stand) → p.left ≤ 1 → Landed g d r →
         Landed g (first_of p.block (body_at s next (p.left - 1)) d) r
     went_past r d few l = rw (first_none s p.block next (p.left - 1) d (omega (arith, few))) l

@@ -14,8 +14,7 @@ use Rattle.record.specs.declared.NameIx.{NameIx}
 use Rattle.record.specs.Record.{NameIx-discrete, Instr, Block, type_in}
 use Rattle.record.specs.Form.{Form, pure, nop, jump, branch, form}
 use Rattle.record.specs.Reader.{num_at}
-use Rattle.record.specs.Decode.{items, id_width, instr_from, instr_end}
-use Rattle.record.specs.Again.{instrs_from}
+use Rattle.record.specs.Decode.{id_width, instr_from, instr_end}
 use Rattle.machine.specs.Machine.{Store, Context, Answer, Stop, at_unset, at_division, Mach, tick, assign, finish, choose, bool_in, act, step}
 use Rattle.running.specs.Steps.{Stand, facing, over, first_of, land, moved, step_from, take_step}
 use Rattle.running.specs.Engine.{fits_form, fits, fits_at}
@@ -29,9 +28,12 @@ use Rattle.engine_quiet.specs.declared.Over.{Over}
 use Rattle.engine_quiet.specs.declared.Over.TheVariants.{Unset, Division, Unfit}
 use Rattle.engine_quiet.specs.declared.Spot.{Spot}
 use Rattle.engine_quiet.specs.Spot.{stop_by, told_types, body_at, blocks_of, stand_of, at_spot, Standing, Facing, Landed, Moved}
-use Rattle.engine_quiet.proofs.Bodies.{head_inside}
-use Rattle.engine_quiet.proofs.Landing.{first_some, over_stands}
+use Rattle.engine_quiet.proofs.Landing.{first_some}
 use Rattle.engine_quiet.proofs.Operands.{id_is}
+
+-- where a run stands
+abbrev pub Run : Type 0
+Run = CodeResult Spot Over
 
 -- ---- a spot with instructions left
 module _ (s : List ℕ) (p : Spot) where
@@ -42,35 +44,23 @@ module _ (s : List ℕ) (p : Spot) where
   abbrev pub rest : List Instr
   rest = body_at s (instr_end (id_width s) s p.at) (p.left - 1)
 
-  -- over, where it stands
-  abbrev pub over_at : Over → Spot
-  over_at k = record { block = p.block; at = p.at; left = 0; stop = k }
-
-  pub over_stand : (k : Over) → stand_of s (over_at k) ≡ over (stop_by k (num_at s p.at (id_width s)))
-  unfolding instrs_from items
-  over_stand k = refl
-
   module _ (h : 0 < p.left) where
-    pub stands_at : stand_of s p ≡ facing p.block here rest
+    pub stands_at : stand_of s (Ok p) ≡ facing p.block here rest
     stands_at = first_some s p.block p.at p.left _ h
 
     module _ (ctx : Context) (bs : List (Block Instr)) (m : Mach) where
-      pub fits_here : fits_at ctx m (stand_of s p) ≡ fits_form ctx here m (form ctx.types here)
+      pub fits_here : fits_at ctx m (stand_of s (Ok p)) ≡ fits_form ctx here m (form ctx.types here)
       unfolding fits
       fits_here = ap (fits_at ctx m) stands_at
 
       pub takes_here :
-          take_step ctx bs (record { stand = stand_of s p; mach = m }) ≡
+          take_step ctx bs (record { stand = stand_of s (Ok p); mach = m }) ≡
           moved bs p.block rest (act ctx here (tick m) (form ctx.types here))
       unfolding take_step step
       takes_here = ap (step_from ctx bs m) stands_at
 
-pub over_standing : (g : Ground) (p : Spot) (k : Over) → Standing g p → 0 < p.left → Standing g (over_at g.s.now p k)
-over_standing g p k st h =
-    over_stands g (over_at g.s.now p k) refl (omega (arith, head_inside g.s.now p.at p.left st.sound h))
-
 -- ---- what an operation left
-module _ (before after : Cells) (d : NameIx) where
+module _ (before after : Cells 256) (d : NameIx) where
   abbrev Left : CodeResult Unit Stop' → Result → Type 0
   Left w r = Works before after d r w
 
@@ -95,7 +85,7 @@ module _ (before after : Cells) (d : NameIx) where
   worked_unset unset h = (refl, h.1)
 
 -- ---- a step without an event
-module _ (g : Ground) (before : Cells) (p : Spot) (facing : Facing g p) where
+module _ (g : Ground) (before : Cells 256) (p : Spot) (facing : Facing g p) where
   abbrev s : List ℕ
   s = g.s.now
 
@@ -116,19 +106,19 @@ module _ (g : Ground) (before : Cells) (p : Spot) (facing : Facing g p) where
   abbrev pub onward_stand : Stand
   onward_stand = first_of p.block (rest s p) (land bs (p.block + 1))
 
-  module _ (after : Cells) (r : Spot) (f : Form) (e : form (type_in types) (here s p) ≡ f) where
+  module _ (after : Cells 256) (r : Run) (f : Form) (e : form (type_in types) (here s p) ≡ f) where
     moved_by :
         ((xs : List Answer) → fits_form ctx (here s p) (mach (store_in before) xs 0) f ≡ true) →
         ((xs : List Answer) → moved bs p.block (rest s p) (act ctx (here s p) (mach (store_in before) xs 1) f) ≡ at_spot s after xs r 1) →
         Standing g r →
-        r.stop ≢ Unfit →
+        r ≢ Err Unfit →
         Moved g before after p r
     unfolding tick
     moved_by fit take standing stop =
         record {
-          fits = λ xs. fits_here s p facing.some ctx bs (mach (store_in before) xs 0) ∙ ap (fits_form ctx (here s p) (mach (store_in before) xs 0)) e ∙ fit xs;
+          fits = λ xs. fits_here s p facing.standing.some ctx bs (mach (store_in before) xs 0) ∙ ap (fits_form ctx (here s p) (mach (store_in before) xs 0)) e ∙ fit xs;
           takes = λ xs.
-              takes_here s p facing.some ctx bs (mach (store_in before) xs 0) ∙
+              takes_here s p facing.standing.some ctx bs (mach (store_in before) xs 0) ∙
               ap (λ (g : Form). moved bs p.block (rest s p) (act ctx (here s p) (mach (store_in before) xs 1) g)) e ∙
               take xs;
           standing = standing;
@@ -137,7 +127,7 @@ module _ (g : Ground) (before : Cells) (p : Spot) (facing : Facing g p) where
 
   -- to the next instruction, with this store
   goes_on :
-      (after : Cells) (r : Spot) (σ : Store) → store_in after ≡ σ → Landed g onward_stand r → (xs : List Answer) →
+      (after : Cells 256) (r : Run) (σ : Store) → store_in after ≡ σ → Landed g onward_stand r → (xs : List Answer) →
       record { stand = first_of p.block (rest s p) (land bs (suc p.block)); mach = mach σ xs 1 } ≡ at_spot s after xs r 1
   goes_on after r σ e l xs =
       let one : p.block + 1 ≡ suc p.block = omega arith in
@@ -147,27 +137,27 @@ module _ (g : Ground) (before : Cells) (p : Spot) (facing : Facing g p) where
 
   -- to another block
   lands_at :
-      (r : Spot) (b : ℕ) → Landed g (land bs b) r → (xs : List Answer) →
+      (r : Run) (b : ℕ) → Landed g (land bs b) r → (xs : List Answer) →
       record { stand = land bs b; mach = mach (store_in before) xs 1 } ≡ at_spot s before xs r 1
   lands_at r b l xs = λ i. record { stand = sym l.stand i; mach = mach (store_in before) xs 1 }
 
-  -- over, by the stop of this number
+  -- over
   ended :
-      (after : Cells) (r : Spot) (k : Over) (stop : Stop) → stop ≡ stop_by k (num_at s p.at (id_width s)) →
-      after ≡ before → r ≡ over_at s p k → (xs : List Answer) →
+      (after : Cells 256) (r : Run) (k : Over) (stop : Stop) → stop ≡ stop_by k →
+      after ≡ before → r ≡ Err k → (xs : List Answer) →
       record { stand = over stop; mach = mach (store_in before) xs 1 } ≡ at_spot s after xs r 1
   ended after r k stop e same eq xs =
-      let d : over stop ≡ stand_of s r = ap over e ∙ sym (over_stand s p k) ∙ ap (stand_of s) (sym eq) in
+      let d : over stop ≡ stand_of s r = ap over e ∙ ap (stand_of s) (sym eq) in
       λ i. record { stand = d i; mach = mach (store_in (sym same i)) xs 1 }
 
-  ended_standing : (r : Spot) (k : Over) → r ≡ over_at s p k → Standing g r
-  ended_standing r k eq = subst (Standing g) (sym eq) (over_standing g p k facing.standing facing.some)
+  ended_standing : (r : Run) (k : Over) → r ≡ Err k → Standing g r
+  ended_standing r k eq = subst (Standing g) (sym eq) tt
 
-  ended_stop : (r : Spot) (k : Over) → k ≢ Unfit → r ≡ over_at s p k → r.stop ≢ Unfit
-  ended_stop r k other eq = subst (λ (q : Spot). q.stop ≢ Unfit) (sym eq) other
+  ended_stop : (r : Run) (k : Over) → k ≢ Unfit → r ≡ Err k → r ≢ Err Unfit
+  ended_stop r k other eq = λ e. let same : Err k ≡ Err Unfit = sym eq ∙ e in other (cc same)
 
   -- an operation, by what it gives
-  module _ (after : Cells) (r : Spot) (x : Expr NameIx) (e : form (type_in types) (here s p) ≡ pure x) where
+  module _ (after : Cells 256) (r : Run) (x : Expr NameIx) (e : form (type_in types) (here s p) ≡ pure x) where
     pub sets_moved :
         (v : Val) → eval (store_in before) x ≡ ok v →
         store_in after ≡ upd NameIx-discrete (store_in before) (here s p).dest (some v) →
@@ -180,16 +170,18 @@ module _ (g : Ground) (before : Cells) (p : Spot) (facing : Facing g p) where
         l.standing l.stop
 
     pub division_moved :
-        eval (store_in before) x ≡ stops by_zero → after ≡ before → r ≡ over_at s p Division → Moved g before after p r
+        eval (store_in before) x ≡ stops by_zero → after ≡ before → (id : ℕ) → id ≡ num_at s p.at (id_width s) →
+        r ≡ Err (Division id) → Moved g before after p r
     unfolding fits_form act finish stop_by
-    division_moved gives same eq =
+    division_moved gives same id ei eq =
         moved_by after r (pure x) e (λ xs. refl)
         (λ xs. ap (λ (z : Result). moved bs p.block (rest s p) (finish (here s p) (mach (store_in before) xs 1) z)) gives ∙
-        ended after r Division (at_division (here s p).id by_zero) (ap (λ (n : ℕ). at_division n by_zero) (id_is (id_width s) s p.at)) same eq xs)
-        (ended_standing r Division eq) (ended_stop r Division (λ q. cc q) eq)
+        ended after r (Division id) (at_division (here s p).id by_zero)
+        (ap (λ (n : ℕ). at_division n by_zero) (id_is (id_width s) s p.at ∙ sym ei)) same eq xs)
+        (ended_standing r (Division id) eq) (ended_stop r (Division id) (λ q. cc q) eq)
 
     pub unset_moved :
-        eval (store_in before) x ≡ unset → after ≡ before → r ≡ over_at s p Unset → Moved g before after p r
+        eval (store_in before) x ≡ unset → after ≡ before → r ≡ Err Unset → Moved g before after p r
     unfolding fits_form act finish stop_by
     unset_moved gives same eq =
         moved_by after r (pure x) e (λ xs. refl)
@@ -204,31 +196,32 @@ module _ (g : Ground) (before : Cells) (p : Spot) (facing : Facing g p) where
           let (v, g) = worked_done before after (here s p).dest (eval (store_in before) x) (rw w at works) in
           sets_moved v g.0 g.1 l
 
-      pub stops_moved : worked ≡ Err stop.Division → r ≡ over_at s p Division → Moved g before after p r
-      stops_moved w eq =
+      pub stops_moved :
+          worked ≡ Err stop.Division → (id : ℕ) → id ≡ num_at s p.at (id_width s) → r ≡ Err (Division id) → Moved g before after p r
+      stops_moved w id ei eq =
           let g = worked_stops before after (here s p).dest (eval (store_in before) x) (rw w at works) in
-          division_moved g.0 g.1 eq
+          division_moved g.0 g.1 id ei eq
 
-      pub lacks_moved : worked ≡ Err stop.Unset → r ≡ over_at s p Unset → Moved g before after p r
+      pub lacks_moved : worked ≡ Err stop.Unset → r ≡ Err Unset → Moved g before after p r
       lacks_moved w eq =
           let g = worked_unset before after (here s p).dest (eval (store_in before) x) (rw w at works) in
           unset_moved g.0 g.1 eq
 
   -- nop
   pub nop_moved :
-      (r : Spot) → form (type_in types) (here s p) ≡ nop → Landed g onward_stand r → Moved g before before p r
+      (r : Run) → form (type_in types) (here s p) ≡ nop → Landed g onward_stand r → Moved g before before p r
   unfolding fits_form act
   nop_moved r e l = moved_by before r nop e (λ xs. refl) (goes_on before r (store_in before) refl l) l.standing l.stop
 
   -- jmp
   pub jump_moved :
-      (r : Spot) (b : ℕ) → form (type_in types) (here s p) ≡ jump b → Landed g (land bs b) r →
+      (r : Run) (b : ℕ) → form (type_in types) (here s p) ≡ jump b → Landed g (land bs b) r →
       Moved g before before p r
   unfolding fits_form act
   jump_moved r b e l = moved_by before r (jump b) e (λ xs. refl) (λ xs. lands_at r b l xs) l.standing l.stop
 
   -- br, by what the name holds
-  module _ (r : Spot) (a : NameIx) (b c : ℕ) (e : form (type_in types) (here s p) ≡ branch a b c) where
+  module _ (r : Run) (a : NameIx) (b c : ℕ) (e : form (type_in types) (here s p) ≡ branch a b c) where
     pub branch_moved :
         (d : Bool) → bool_in (store_in before a) ≡ some d → Landed g (land bs (cond d b c)) r → Moved g before before p r
     unfolding fits_form act choose
@@ -244,7 +237,7 @@ module _ (g : Ground) (before : Cells) (p : Spot) (facing : Facing g p) where
         go true xs = refl
         go false xs = refl
 
-    pub branch_unset : bool_in (store_in before a) ≡ none → r ≡ over_at s p Unset → Moved g before before p r
+    pub branch_unset : bool_in (store_in before a) ≡ none → r ≡ Err Unset → Moved g before before p r
     unfolding fits_form act choose stop_by
     branch_unset holds eq =
         moved_by before r (branch a b c) e (λ xs. refl)

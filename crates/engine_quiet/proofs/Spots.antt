@@ -31,7 +31,7 @@ use Rattle.engine_quiet.specs.declared.Spot.{Spot}
 use Rattle.engine_quiet.specs.Spot.{blocks_of, body_at, quiet, code_at, Facing, Landed, Moved}
 use Rattle.engine_quiet.proofs.Bodies.{first_passes, first_inside}
 use Rattle.engine_quiet.proofs.Forms.{const_is, const_form, const_end, const_below, const_kind, op_is, op_form, op_end, op_count, op_below, jump_form, nop_form, nop_end}
-use Rattle.engine_quiet.proofs.Moved.{here, over_at, sets_moved, done_moved, stops_moved, lacks_moved, jump_moved, nop_moved}
+use Rattle.engine_quiet.proofs.Moved.{Run, here, sets_moved, done_moved, stops_moved, lacks_moved, jump_moved, nop_moved}
 
 -- what is left of the codes without an event is nop
 pub quiet_left : (c : ℕ) → quiet c ≡ true → 14 < c → c ≢ 64 → c ≢ 65 → c ≡ 69
@@ -53,20 +53,20 @@ module _ {g : Ground} {p : Spot} (facing : Facing g p) (at : ℕ) (place : at �
   types = g.types.now
 
   passes : Passes (names_count s) (instr_from (id_width s) s p.at)
-  passes = first_passes s p.at p.left facing.standing.sound facing.some
+  passes = first_passes s p.at p.left facing.standing.sound facing.standing.some
 
   there : p.at + id_width s + 1 ≡ at
   there = rw (← facing.grounded.width) (sym place)
 
   -- as onward has it
-  abbrev On : ℕ → Spot → Type 0
+  abbrev On : ℕ → Run → Type 0
   On next r = Landed g (first_of p.block (body_at s next (p.left - 1)) (land (blocks_of g) (p.block + 1))) r
 
   inside_by : (next : ℕ) → next ≡ instr_end (id_width s) s p.at → next ≤ length s
-  inside_by next e = omega (arith, e, first_inside s p.at p.left facing.standing.sound facing.some)
+  inside_by next e = omega (arith, e, first_inside s p.at p.left facing.standing.sound facing.standing.some)
 
   dest_few : (few : ℕ) → few < names_count s → few < 256
-  dest_few few f = omega (arith, facing.grounded.names, f)
+  dest_few few f = omega (arith, facing.grounded.laid.names, f)
 
   -- ---- codes 1 to 14
   module _ {code : ℕ} (coded : code ≡ code_at s p.at) (least : 1 ≤ code) (most : code ≤ 14) where
@@ -85,7 +85,7 @@ module _ {g : Ground} {p : Spot} (facing : Facing g p) (at : ℕ) (place : at �
     operands_read : num_at s (at + 2) 1 ≡ operands code
     operands_read = rw (← there, coded) (op_count (id_width s) s p.at (names_count s) passes (type_in []) low high)
 
-    pub op_lies : Lies s at (3 + 2 * operands code)
+    pub op_lies : Lies 256 s at (3 + 2 * operands code)
     op_lies =
         let below : num_at s at 2 < names_count s =
         rw (← there) (op_below (id_width s) s p.at (names_count s) passes (type_in []) low high) in (
@@ -94,7 +94,7 @@ module _ {g : Ground} {p : Spot} (facing : Facing g p) (at : ℕ) (place : at �
         )
 
     module _
-        (before after : Cells) (r : Spot) (worked : CodeResult Unit Stop)
+        (before after : Cells 256) (r : Run) (worked : CodeResult Unit Stop)
         (works : Works before after (index_from s at) (eval (store_in before) (expr_at code s at)) worked) where
       formed : form (type_in types) (here s p) ≡ pure (expr_at code s at)
       formed = rw (← there, coded) (op_form (id_width s) s p.at (names_count s) passes (type_in types) low high)
@@ -109,10 +109,13 @@ module _ {g : Ground} {p : Spot} (facing : Facing g p) (at : ℕ) (place : at �
       op_done k next en l =
           done_moved g before p facing after r (expr_at code s at) formed worked works_here k (rw en at l)
 
-      pub op_stops : worked ≡ Err stop.Division → r ≡ over_at s p Division → Moved g before after p r
-      op_stops k e = stops_moved g before p facing after r (expr_at code s at) formed worked works_here k e
+      pub op_stops :
+          worked ≡ Err stop.Division → (id : ℕ) → id ≡ num_at s p.at g.w → r ≡ Err (Division id) → Moved g before after p r
+      op_stops k id ei e =
+          stops_moved g before p facing after r (expr_at code s at) formed worked works_here k id
+          (rw facing.grounded.width at ei) e
 
-      pub op_lacks : worked ≡ Err stop.Unset → r ≡ over_at s p Unset → Moved g before after p r
+      pub op_lacks : worked ≡ Err stop.Unset → r ≡ Err Unset → Moved g before after p r
       op_lacks k e = lacks_moved g before p facing after r (expr_at code s at) formed worked works_here k e
 
   -- ---- const
@@ -126,7 +129,7 @@ module _ {g : Ground} {p : Spot} (facing : Facing g p) (at : ℕ) (place : at �
     pub const_inside : at + 11 ≤ length s
     const_inside = inside_by (at + 11) const_next
 
-    pub const_lies : (num_at s (at + 2) 1 ≤ 3) × Lies s at 11
+    pub const_lies : (num_at s (at + 2) 1 ≤ 3) × Lies 256 s at 11
     const_lies =
         let below : num_at s at 2 < names_count s =
         rw (← there) (const_below (id_width s) s p.at (names_count s) passes (type_in []) is_const) in
@@ -135,7 +138,7 @@ module _ {g : Ground} {p : Spot} (facing : Facing g p) (at : ℕ) (place : at �
         (kind, (const_inside, dest_few (num_at s at 2) below))
 
     pub const_done :
-        (before after : Cells) (r : Spot) (next : ℕ) →
+        (before after : Cells 256) (r : Run) (next : ℕ) →
         store_in after ≡
         upd NameIx-discrete (store_in before) (index_from s at)
         (some (value_of (type_in types (index_from s at)) (num_at s (at + 2) 1) (num_at s (at + 3) 8))) →
@@ -151,7 +154,7 @@ module _ {g : Ground} {p : Spot} (facing : Facing g p) (at : ℕ) (place : at �
 
   -- ---- jmp
   pub jump_done :
-      {code : ℕ} → code ≡ code_at s p.at → code ≡ 64 → (before : Cells) (r : Spot) (b : ℕ) → b ≡ num_at s (at + 1) 2 →
+      {code : ℕ} → code ≡ code_at s p.at → code ≡ 64 → (before : Cells 256) (r : Run) (b : ℕ) → b ≡ num_at s (at + 1) 2 →
       Landed g (land (blocks_of g) b) r → Moved g before before p r
   jump_done coded e before r b eb l =
       let formed : form (type_in types) (here s p) ≡ jump b =
@@ -165,7 +168,7 @@ module _ {g : Ground} {p : Spot} (facing : Facing g p) (at : ℕ) (place : at �
     nop_next = omega (arith, there, nop_end (id_width s) s p.at (names_count s) passes (type_in []) (sym coded ∙ e))
 
     pub nop_done :
-        (before : Cells) (r : Spot) (next : ℕ) → next ≡ instr_end (id_width s) s p.at → On next r → Moved g before before p r
+        (before : Cells 256) (r : Run) (next : ℕ) → next ≡ instr_end (id_width s) s p.at → On next r → Moved g before before p r
     nop_done before r next en l =
         nop_moved g before p facing r
         (nop_form (id_width s) s p.at (names_count s) passes (type_in types) (sym coded ∙ e)) (rw en at l)

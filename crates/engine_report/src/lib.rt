@@ -1,4 +1,5 @@
 // What the program that runs an accession writes, put into lent buffers: the answer, the events and the final store.
+// as: a number that is known to fit, or u64 and usize, which have no From; try_from would hand out an error that cannot be.
 #![tactic(auto)]
 
 ghost use Rattle.std.specs.Prelude.{◌≡◌, ◌+◌, ◌*◌, ◌≤◌, length, take};
@@ -12,7 +13,7 @@ use running::{Run, RunError};
 const HEAD: usize = 41;
 
 // How many bytes of the answer, of the events and of the store are to be written, one part after the other.
-#[derive(Clone, Copy)]
+#[derive(Clone, Copy, PartialEq, Eq, Debug)]
 pub struct Parts {
     pub head: usize,
     pub events: usize,
@@ -52,7 +53,7 @@ fn put_answer(out: &mut [u8; HEAD], a: Result<Run, RunError>) -> usize
     ensures { (result ≤ 41) × (take result out.new ≡ returned_bytes (engine_answer a)) }
 {
     let n = engine_answer::in_numbers(a);
-    put_returned(out, n.number, &n.values[..n.count])
+    put_returned(out, n.number, n.given())
 }
 
 // 10 with its value, and nothing behind it.
@@ -79,7 +80,7 @@ fn parts_of(head: usize, a: Result<Run, RunError>) -> Parts
 
 // Where the part that begins at a place ends.
 fn part_end(s: &[u8], at: usize) -> usize
-    requires { (at ≤ length s.now) × (length s.now ≤ most_run_input) }
+    requires { at ≤ length s.now }
     ensures { (result ≡ part_end s.now at) × ((at ≤ result) × (result ≤ length s.now)) }
 {
     let n = 4 + read_fields::be::<4>(s, at) as usize;
@@ -99,7 +100,7 @@ fn run_from(
     events: &mut [u8],
     left: &mut [u8],
 ) -> Parts
-    requires { (a ≤ b) × ((b ≤ c) × ((c ≤ length s.now) × (length s.now ≤ most_run_input))) }
+    requires { (a ≤ b) × ((b ≤ c) × (c ≤ length s.now)) }
     ensures { Shows result head.new events.new left.new
         (output_of (length events.old) (length left.old) s.now a b c) }
 {

@@ -1,13 +1,12 @@
 -- A run by steps as far as it has come: one step more, quiet or with an event, and what it is when no more steps are taken.
 use Prim.Native.Nat.{ℕ, suc, ◌+◌, ◌-◌, ◌<◌, ◌≤◌}
 use mathlib.Core.Path.{◌≡◌, refl, sym, ap, ◌∙◌}
-use mathlib.Core.Bool.{Bool, true, false, cond, not, ◌&&◌, ◌||◌}
+use mathlib.Core.Bool.{Bool, true, false, not, ◌&&◌, ◌||◌}
 use mathlib.Core.Logic.{◌≢◌}
 use mathlib.Core.List.{List, [], ◌++◌}
 use native.Mathlib.Omega.{arith}
-use borrow.Author.Tests.{ne_eqb}
-use lib.Dec.{eqb}
 use lib.ListN.{length, get_or}
+use Rattle.std.proofs.Common.{Ok, Err}
 use Rattle.record.specs.Write.{join}
 use Rattle.record.specs.Decode.{id_width}
 use Rattle.record.specs.Record.{Instr, Block}
@@ -22,15 +21,20 @@ use Rattle.engine_cells.specs.declared.Cells.{Cells}
 use Rattle.engine_quiet.specs.declared.Ground.{Ground}
 use Rattle.engine_quiet.specs.declared.Over.TheVariants.{Unfit}
 use Rattle.engine_quiet.specs.declared.Spot.{Spot}
-use Rattle.engine_quiet.specs.Spot.{told_types, blocks_of, quiet, code_at, Grounded, Facing, Moved}
+use Rattle.engine_quiet.specs.Spot.{told_types, blocks_of, stand_of, at_spot, quiet, code_at, Grounded, Facing, Moved}
+use Rattle.engine_quiet.proofs.Moved.{Run}
 use Rattle.engine_events.specs.declared.Turn.{Turn}
-use Rattle.engine_events.specs.Turn.{config_in, answers_left, Ready, Stepped}
+use Rattle.engine_events.specs.Turn.{config_in, answers_left, ahead_of, events_ahead, Ready, Going, Stepped}
+use Rattle.engine_events.proofs.Operands.{stands as before_of}
 use Rattle.engine_steps.specs.Came.{waiting, steps_of, unfit_of, Calm, Goes}
 use Rattle.engine_steps.proofs.Events.{events_then, no_bytes}
 
 -- ---- the instruction at which a run stands
-pub stands : {g : Ground} {t : Turn} → Grounded g → Ready g t → 0 < t.spot.left → Facing g t.spot
-stands g h some = record { grounded = g; standing = h.standing; some = some }
+pub stands : {g : Ground} {t : Turn} {p : Spot} → Grounded g → Ready g t → t.spot ≡ Ok p → Going g p t
+stands h ready here = record { grounded = h; ready = ready; here = here }
+
+pub faces : {g : Ground} {t : Turn} {p : Spot} → Going g p t → Facing g p
+faces h = record { grounded = h.grounded; standing = before_of h }
 
 -- its code, as the code reads it
 pub coded : {g : Ground} (at : ℕ) {code : ℕ} → Grounded g → code ≡ get_or g.s.now (at + g.w) 0 → code ≡ code_at g.s.now at
@@ -38,21 +42,19 @@ coded {g} at h e = e ∙ ap (λ (k : ℕ). get_or g.s.now (at + k) 0) h.width
 
 -- ---- a step without an event
 -- standing elsewhere
-abbrev pub moved_to : Turn → Spot → Turn
-moved_to t p =
-    record { spot = p; more = t.more; answer = t.answer; answers = t.answers; event = t.event; tells = t.tells }
+abbrev pub moved_to : Turn → Run → Turn
+moved_to t q =
+    record { spot = q; more = t.more; answer = t.answer; answers = t.answers; event = t.event; tells = t.tells }
 
-ahead_all : (n k : ℕ) → 0 < n → cond (eqb n 0) 0 k ≡ k
-ahead_all n k h = ap (λ (b : Bool). cond b 0 k) (ne_eqb n 0 (λ e. omega (arith, h, e)))
+ahead_most : (q : Run) (n : ℕ) → ahead_of q n ≤ suc n
+ahead_most (Ok p) n = omega arith
+ahead_most (Err k) n = omega arith
 
-ahead_most : (b : Bool) (k : ℕ) → cond b 0 k ≤ k
-ahead_most true k = omega arith
-ahead_most false k = omega arith
-
-module _ (g : Ground) (before after : Cells) (l : List ℕ) (t : Turn) (p : Spot) (moved : Moved g before after t.spot p) where
-  pub quiet_steps : Ready g t → 0 < t.spot.left → Stepped g before after l l t (moved_to t p)
+module _ (g : Ground) (before after : Cells 256) (l : List ℕ) (p : Spot) (t : Turn) (q : Run) (moved : Moved g before after p q) where
+  pub quiet_steps : Going g p t → Stepped g before after l l t (moved_to t q)
   unfolding events_bytes join
-  quiet_steps h left =
+  quiet_steps going =
+      let h = going.ready in
       record {
         ready =
             record {
@@ -60,12 +62,8 @@ module _ (g : Ground) (before after : Cells) (l : List ℕ) (t : Turn) (p : Spot
               sure = h.sure;
               answers = h.answers;
               events =
-                  omega (
-                    arith,
-                    h.events,
-                    ahead_all t.spot.left (suc t.answers) left,
-                    ahead_most (eqb p.left 0) (suc t.answers),
-                  );
+                  let all : events_ahead t ≡ suc t.answers = ap (λ (r : Run). ahead_of r t.answers) going.here in
+                  omega (arith, h.events, all, ahead_most q t.answers);
             };
         more = refl;
         tells = refl;
@@ -73,30 +71,33 @@ module _ (g : Ground) (before after : Cells) (l : List ℕ) (t : Turn) (p : Spot
         fit =
             λ _. record {
               added = [];
-              fits = moved.fits (answers_left g.list.now t);
-              takes = moved.takes (answers_left g.list.now t);
+              fits =
+                  ap (λ (r : Run). fits_at (told_types g.types.now) (config_in g before t).mach (stand_of g.s.now r)) going.here ∙
+                  moved.fits (answers_left g.list.now t);
+              takes =
+                  ap (λ (r : Run).
+                  take_step (told_types g.types.now) (blocks_of g) (at_spot g.s.now before (answers_left g.list.now t) r 0)) going.here ∙
+                  moved.takes (answers_left g.list.now t);
               wrote = wrote_nothing;
             };
       }
 
-  pub quiet_calm : Calm t (moved_to t p)
+  pub quiet_calm : Calm t (moved_to t q)
   quiet_calm = record { event = refl; stop = moved.stop }
 
 -- ---- as far as a run has come
-pub record Upto (g : Ground) (before after : Cells) (l m : List ℕ) (t r : Turn) : Type 0 where
+pub record Upto (g : Ground) (before after : Cells 256) (l m : List ℕ) (t r : Turn) : Type 0 where
   pub ready : Ready g r
   pub fewer : r.more ≤ t.more
   pub tells : r.tells ≡ t.tells
-  pub unfit :
-      r.spot.stop ≡ Unfit →
-      (unfit_of g t.more (config_in g before t) ≡ true) × (r.spot.left ≡ 0)
-  pub fit : r.spot.stop ≢ Unfit → Goes g before after l m t r
-  pub calm : t.tells ≡ false → r.spot.stop ≢ Unfit
+  pub unfit : r.spot ≡ Err Unfit → unfit_of g t.more (config_in g before t) ≡ true
+  pub fit : r.spot ≢ Err Unfit → Goes g before after l m t r
+  pub calm : t.tells ≡ false → r.spot ≢ Err Unfit
 
 pub upto_nothing :
-    (g : Ground) (cells : Cells) (l : List ℕ) (t : Turn) →
+    (g : Ground) (cells : Cells 256) (l : List ℕ) (t : Turn) →
     Ready g t →
-    t.spot.stop ≢ Unfit →
+    t.spot ≢ Err Unfit →
     Upto g cells cells l l t t
 unfolding events_bytes join
 upto_nothing g cells l t h ne =
@@ -156,24 +157,25 @@ quiet_then true false h e = sym e
 quiet_then false false h e = sym h
 
 module _
-    (g : Ground) (before mid after : Cells) (l m o : List ℕ) (t u r : Turn)
+    (g : Ground) (before mid after : Cells 256) (l m o : List ℕ) (t u r : Turn)
+    (p : Spot)
     (upto : Upto g before mid l m t u)
-    (left : 0 < u.spot.left)
+    (here : u.spot ≡ Ok p)
     (more : 0 < u.more)
     (stepped : Stepped g mid after m o u r)
-    (went : waiting g.s.now u ≡ false)
-    (calm : quiet (code_at g.s.now u.spot.at) ≡ true → Calm u r)
+    (went : waiting g.s.now p u ≡ false)
+    (calm : quiet (code_at g.s.now p.at) ≡ true → Calm u r)
   where
     abbrev n : ℕ
     n = u.more - 1
 
     goes : Goes g before mid l m t u
-    goes = upto.fit (λ e. omega (arith, left, (upto.unfit e).1))
+    goes = upto.fit (λ e. let q : Ok p ≡ Err Unfit = sym here ∙ e in cc q)
 
     calm_then : t.tells ≡ false → Calm u r
-    calm_then e = calm (quiet_then u.tells (quiet (code_at g.s.now u.spot.at)) went (upto.tells ∙ e))
+    calm_then e = calm (quiet_then u.tells (quiet (code_at g.s.now p.at)) went (upto.tells ∙ e))
 
-    goes_on : r.spot.stop ≢ Unfit → Goes g before after l o t (with_more n r)
+    goes_on : r.spot ≢ Err Unfit → Goes g before after l o t (with_more n r)
     goes_on ne =
         let does = stepped.fit ne in
         let z : u.more ≡ suc n = one_more u.more more in
@@ -218,8 +220,8 @@ module _
               let ctx = told_types g.types.now in
               let bs = blocks_of g in
               let c = config_in g mid u in
-              let h = stepped.unfit e in
-              (goes.same ∙ ap (λ (j : ℕ). unfit_within ctx bs j c) (one_more u.more more) ∙ unfit_now ctx bs n c h.0, h.1);
+              goes.same ∙ ap (λ (j : ℕ). unfit_within ctx bs j c) (one_more u.more more) ∙
+              unfit_now ctx bs n c (stepped.unfit e);
           fit = goes_on;
           calm = λ e. (calm_then e).stop;
         }

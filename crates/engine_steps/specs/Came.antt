@@ -1,5 +1,5 @@
 -- What as many steps as may be taken come to: where the machine's run from the same place leads, with the events that were added written out.
-use Rattle.std.specs.Prelude.{ℕ, ◌-◌, ◌≤◌, List, [], Bool, true, false, not, ◌&&◌, ◌≡◌, ◌≢◌, ◌⊎◌}
+use Rattle.std.specs.Prelude.{ℕ, ◌-◌, ◌≤◌, List, [], Bool, true, false, not, ◌&&◌, ◌≡◌, ◌≢◌, ◌⊎◌, Err}
 use Rattle.record.specs.Decode.{id_width}
 use Rattle.machine.specs.Machine.{Event}
 use Rattle.running.specs.Steps.{Config, steps, shifted}
@@ -8,14 +8,20 @@ use Rattle.running.specs.Engine.{unfit_within}
 use Rattle.write_bytes.specs.Put.{Wrote}
 use Rattle.engine_cells.specs.declared.Cells.{Cells}
 use Rattle.engine_quiet.specs.declared.Ground.{Ground}
+use Rattle.engine_quiet.specs.declared.Over.{Over}
 use Rattle.engine_quiet.specs.declared.Over.TheVariants.{Unfit}
+use Rattle.engine_quiet.specs.declared.Spot.{Spot}
 use Rattle.engine_quiet.specs.Spot.{told_types, blocks_of, quiet, code_at}
 use Rattle.engine_events.specs.declared.Turn.{Turn}
 use Rattle.engine_events.specs.Turn.{config_in, Ready}
 
--- events are not told yet, and the instruction at which the run stands has one
-abbrev pub waiting : List ℕ → Turn → Bool
-waiting s t = not t.tells && not (quiet (code_at s t.spot.at))
+-- events are not told yet, and the instruction at p has one
+abbrev pub waiting : List ℕ → Spot → Turn → Bool
+waiting s p t = not t.tells && not (quiet (code_at s p.at))
+
+-- the run is over
+abbrev pub IsOver : Turn → Type 0
+IsOver t = (k : Over) × (t.spot ≡ Err k)
 
 module _ (g : Ground) where
   -- k steps of the machine, and whether one of them takes an answer that does not fit
@@ -28,10 +34,10 @@ module _ (g : Ground) where
 -- from t to r by a step without an event: nothing is written, and nothing is unfit
 pub record Calm (t r : Turn) : Type 0 where
   pub event : r.event ≡ t.event
-  pub stop : r.spot.stop ≢ Unfit
+  pub stop : r.spot ≢ Err Unfit
 
 -- from t to r; before and after: the cells; l and m: what was lent for the events
-pub record Goes (g : Ground) (before after : Cells) (l m : List ℕ) (t r : Turn) : Type 0 where
+pub record Goes (g : Ground) (before after : Cells 256) (l m : List ℕ) (t r : Turn) : Type 0 where
   pub added : List Event
   -- the steps that t may take are those from r on, behind what was done so far
   pub rest :
@@ -41,12 +47,12 @@ pub record Goes (g : Ground) (before after : Cells) (l m : List ℕ) (t r : Turn
   pub wrote : Wrote l m t.event r.event (events_bytes (id_width g.s.now) added)
   pub waited : t.tells ≡ false → added ≡ []
 
-pub record Came (g : Ground) (before after : Cells) (l m : List ℕ) (t r : Turn) : Type 0 where
+pub record Came (g : Ground) (before after : Cells 256) (l m : List ℕ) (t r : Turn) : Type 0 where
   pub ready : Ready g r
   pub fewer : r.more ≤ t.more
-  pub unfit : r.spot.stop ≡ Unfit → unfit_of g t.more (config_in g before t) ≡ true
-  pub fit : r.spot.stop ≢ Unfit → Goes g before after l m t r
+  pub unfit : r.spot ≡ Err Unfit → unfit_of g t.more (config_in g before t) ≡ true
+  pub fit : r.spot ≢ Err Unfit → Goes g before after l m t r
   -- to the end, if events are told
-  pub ended : t.tells ≡ true → (r.spot.left ≡ 0) ⊎ (r.more ≡ 0)
+  pub ended : t.tells ≡ true → IsOver r ⊎ (r.more ≡ 0)
   -- no answer is taken before events are told
-  pub calm : t.tells ≡ false → r.spot.stop ≢ Unfit
+  pub calm : t.tells ≡ false → r.spot ≢ Err Unfit

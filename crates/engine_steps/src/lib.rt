@@ -1,58 +1,65 @@
 // The machine by steps: one instruction, and as many as may be done. g: what the run rests on; out: what was lent for the events.
+// g, cells, out and t go together through steps, step and event_step alone; the functions below take one or two of them, so a struct would be
+// taken apart at each step.
 #![tactic(auto)]
 
-ghost use Rattle.std.specs.Prelude.{◌≡◌, true, not, ◌&&◌, ◌≢◌};
+ghost use Rattle.std.specs.Prelude.{◌≡◌, Err, true, not, ◌&&◌, ◌≢◌};
 ghost use Rattle.engine_quiet.specs.Spot.{Grounded, quiet, code_at};
 ghost use Rattle.engine_events.specs.Turn.{Ready, Going, Stepped};
 ghost use Rattle.engine_steps.specs.Came.{Calm, Came};
 
-use engine_cells::Cells;
+use engine_cells::{Cells, NAMES};
 use engine_events::Turn;
-use engine_quiet::{Ground, Over};
+use engine_quiet::{Ground, Over, Spot};
 
 // Whether the run waits before an instruction of this code: events are not told yet, and it has one.
 fn waits(code: u64, t: Turn) -> bool
     ensures { result ≡ (not t.tells && not (quiet code)) }
 {
-    !t.tells && !engine_quiet::quiet(code)
+    !engine_quiet::quiet(code) && !t.tells
 }
 
 // The instruction at which the run stands.
-fn step(g: &Ground, code: u64, cells: &mut Cells, out: &mut [u8], t: Turn) -> Turn
-    requires going { Going g.now t }
-    requires coded { code ≡ code_at g.now.s.now t.spot.at }
+fn step(g: &Ground, code: u64, cells: &mut Cells<NAMES>, out: &mut [u8], p: Spot, t: Turn) -> Turn
+    requires going { Going g.now p t }
+    requires coded { code ≡ code_at g.now.s.now p.at }
     ensures { Stepped g.now cells.old cells.new out.old out.new t result ×
-        (quiet (code_at g.now.s.now t.spot.at) ≡ true → Calm t result) }
+        (quiet (code_at g.now.s.now p.at) ≡ true → Calm t result) }
 {
     if engine_quiet::quiet(code) {
         return Turn {
-            spot: engine_quiet::quiet_step(g, code, cells, t.spot),
+            spot: engine_quiet::quiet_step(g, code, cells, p),
             ..t
         };
     }
-    engine_events::event_step(g, cells, out, t)
+    engine_events::event_step(g, cells, out, p, t)
 }
 
 // As many steps as may be taken; where events are not told yet, as far as the first instruction with one.
-pub fn steps(g: &Ground, cells: &mut Cells, out: &mut [u8], mut t: Turn) -> Turn
+pub fn steps(g: &Ground, cells: &mut Cells<NAMES>, out: &mut [u8], mut t: Turn) -> Turn
     requires grounded { Grounded g.now }
     requires ready { Ready g.now t }
-    requires fit { t.spot.stop ≢ Over.Unfit }
+    requires fit { t.spot ≢ Err Over.Unfit }
     ensures { Came g.now cells.old cells.new out.old out.new t result }
 {
     // A copy of its own, whose fields need not be read again after each write to the cells.
     let own = *g;
     let g = &own;
     // The run itself says when it is over, so nothing is counted up to.
-    while t.spot.left > 0 && t.more > 0 {
-        let code = read_fields::byte_or(g.s, t.spot.at + g.w);
+    loop {
+        let Ok(p) = t.spot else {
+            return t;
+        };
+        if t.more == 0 {
+            return t;
+        }
+        let code = read_fields::byte_or(g.s, p.at + g.w);
         if waits(code, t) {
             return t;
         }
         t = Turn {
             more: t.more - 1,
-            ..step(g, code, cells, out, t)
+            ..step(g, code, cells, out, p, t)
         };
     }
-    t
 }

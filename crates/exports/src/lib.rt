@@ -11,8 +11,6 @@ ghost use Rattle.numbering.specs.NameText.{name_answer, name_text};
 ghost use Rattle.running.specs.Engine.{engine, engine_events, engine_store, engine_answer};
 ghost use Rattle.exports.specs.Values.{value, values, run_values, place_values, LiesWithin};
 
-use numbering::{FiguresError, NameError, RewriteError};
-
 // Whether the bytes are a record of a function. offset: that of the fault; 0 if there is none.
 #[unsafe(no_mangle)]
 #[tactic(auto, unfolding(record::specs::Answer::check_answer))]
@@ -27,7 +25,7 @@ pub extern "C" fn lvn_check(input: &[u8], offset: &mut usize) -> u8
         }
         Err(f) => {
             *offset = f.offset;
-            checker::number_of(f.refusal)
+            u8::from(f.refusal)
         }
     }
 }
@@ -46,13 +44,9 @@ pub extern "C" fn lvn_rewrite(input: &[u8], output: &mut [u8], answer: &mut [usi
             *answer = [written.bytes, written.saves];
             0
         }
-        Err(RewriteError::Refused(f)) => {
-            *answer = [f.offset, 0];
-            checker::number_of(f.refusal)
-        }
-        Err(RewriteError::Room(n)) => {
-            *answer = [n, 0];
-            9
+        Err(e) => {
+            *answer = [e.value(), 0];
+            e.number()
         }
     }
 }
@@ -71,13 +65,9 @@ pub extern "C" fn lvn_figures(input: &[u8], places: &mut [u16], answer: &mut [us
             *answer = [counted.bytes, counted.saves];
             0
         }
-        Err(FiguresError::Refused(f)) => {
-            *answer = [f.offset, 0];
-            checker::number_of(f.refusal)
-        }
-        Err(FiguresError::TooFew) => {
-            *answer = [0, 0];
-            12
+        Err(e) => {
+            *answer = [e.value(), 0];
+            e.number()
         }
     }
 }
@@ -101,13 +91,9 @@ pub extern "C" fn lvn_name_text(
             *answer = [0, usize::from(p.rewriting), p.from, p.count];
             0
         }
-        Err(NameError::Refused(f)) => {
-            *answer = [f.offset, 0, 0, 0];
-            checker::number_of(f.refusal)
-        }
-        Err(NameError::Mismatch) => {
-            *answer = [0; 4];
-            11
+        Err(e) => {
+            *answer = [e.value(), 0, 0, 0];
+            e.number()
         }
     }
 }
@@ -132,6 +118,7 @@ pub extern "C" fn lvn_run(
 {
     let ran = engine::run(record, store, answers, limit, events, final_store);
     let n = engine_answer::in_numbers(ran);
+    // `*answer = n.values;` was tried: the check finds no proof of what the five places then hold.
     let values = n.values;
     *answer = values;
     n.number

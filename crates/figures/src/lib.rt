@@ -7,36 +7,35 @@ ghost use Rattle.record.specs.Reader.{num_at};
 ghost use Rattle.record.specs.Answer.{checked};
 ghost use Rattle.record.specs.Sizes.{most_body};
 ghost use Rattle.numbering.specs.Figures.{figures, figures_leaves};
-ghost use Rattle.rewrite.specs.Parts.{Typed, most_saves};
+ghost use Rattle.rewrite.specs.Parts.{Typed};
 ghost use Rattle.figures.specs.Answers.{FiguredAs};
 
-use lvn_blocks::Source;
-use lvn_state::{LvnState, NAMES};
+use lvn_blocks::BlockState;
+use lvn_state::NAMES;
 use numbering::{FiguresError, Totals};
+use rewrite::Opened;
 
-// Of an accepted record that has at most N saves, with a place for each block.
-pub fn figures_noting<const N: usize>(src: &Source, each: &mut [u16]) -> Totals
-    requires { Typed src.now × ((most_body * num_at src.now.reads.now src.now.layout.end 2 ≤ N) ×
-        ((N ≤ most_saves) × (num_at src.now.reads.now src.now.layout.end 2 ≤ length each.old))) }
+// Of an accepted record, with a place for each block. names: a table for what each K saves.
+pub fn figures_noting(src: &Opened, names: &mut [u16], each: &mut [u16]) -> Totals
+    requires { Typed src.now × ((most_body * num_at src.now.reads.now src.now.end 2 ≤ length names.old) ×
+        (num_at src.now.reads.now src.now.end 2 ≤ length each.old)) }
     ensures { FiguredAs src.now.reads.now each.old (Ok result) each.new }
 {
-    let mut names = [0u16; N];
-    let mut st = LvnState::new();
-    rewrite::measure(&mut st, src, &mut names, each)
+    let mut st = BlockState::new();
+    rewrite::measure(&mut st, src, names, each)
 }
 
-// The same, with a table that is long enough: few blocks have few saves. rewrite has the same choice, since a const argument is not computed.
-pub fn figures_typed(src: &Source, each: &mut [u16]) -> Totals
-    requires { Typed src.now × (num_at src.now.reads.now src.now.layout.end 2 ≤ length each.old) }
+// The same, over a table that is long enough.
+pub fn figures_typed(src: &Opened, each: &mut [u16]) -> Totals
+    requires { Typed src.now × (num_at src.now.reads.now src.now.end 2 ≤ length each.old) }
     ensures { FiguredAs src.now.reads.now each.old (Ok result) each.new }
 {
-    if src.layout.blocks <= 1 {
-        figures_noting::<256>(src, each)
-    } else if src.layout.blocks <= 4 {
-        figures_noting::<1024>(src, each)
-    } else {
-        figures_noting::<16384>(src, each)
-    }
+    let noting = |names: &mut [u16], e: &mut [u16]|
+        requires { Typed src.now × ((most_body * num_at src.now.reads.now src.now.end 2 ≤ length names.old) ×
+            (num_at src.now.reads.now src.now.end 2 ≤ length e.old)) }
+        ensures { FiguredAs src.entry.now.reads.now e.old (Ok result) e.new }
+    { figures_noting(src, names, e) };
+    rewrite::with_table(read_fields::be::<2>(src.reads, src.end), each, noting)
 }
 
 // Of an accepted record: the types and places of its names; whether each block has a place; then the rest. One without blocks is its own
@@ -58,12 +57,11 @@ pub fn figures_accepted(s: &[u8], each: &mut [u16]) -> Result<Totals, FiguresErr
             saves: 0,
         });
     }
-    let count = layout.names as usize;
-    let src = Source {
+    let src = Opened {
         reads: s,
-        layout,
-        types: &types[..count],
+        types: &types[..usize::from(layout.names)],
         places: &places,
+        end: layout.end,
     };
     Ok(figures_typed(&src, each))
 }

@@ -51,7 +51,6 @@ module _
     pub ready : Ready r.instr
     ready =
         record {
-          few = a.count;
           coded = ap op_of (ap code_of a.op ∙ op_code (num_at s (at + w) 1)) ∙ sym a.op;
           reading = subst (λ (j : Instr). (t : NameIx → ℕ) → reads (form t j) ≡ j.args) (sym a.instr)
               (λ t. reads_args N B left t (instr_from w s at) h);

@@ -116,7 +116,7 @@ pub body_asks :
     count ≡ num_at s at.p 2 →
     BlocksAsk F s at c 1 →
     st ≡ start F.args c.k →
-    Asks F s st (record { p = at.p + 4; q = at.q + 4 }) count
+    Asks 256 512 F s st (record { p = at.p + 4; q = at.q + 4 }) count
 body_asks {F} {s} {at} {c} st count many b e =
     let h = block_passes b in
     let few : num_at s at.p 2 ≤ 256 = size_most F (λ x. 0) s at.p 0 h in
@@ -127,6 +127,8 @@ body_asks {F} {s} {at} {c} st count many b e =
     body_again F.width s at.p ∙ ap (instrs_from F.width s (at.p + 4)) (sym many) in
     record {
       width = b.width;
+      some = omega arith;
+      maps = record { names = omega arith; numbers = omega arith };
       names = b.names;
       numbers = omega (arith, r, few, many);
       made = let x : F.names + c.k + 256 * 1 < 65535 = b.made in omega (arith, m, few, many, x);

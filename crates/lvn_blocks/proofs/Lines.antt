@@ -1,5 +1,5 @@
 -- What is written of one instruction: the save that it owes and itself, as bytes, and what the save saves.
-use Prim.Native.Nat.{ℕ, ◌+◌, ◌≤◌}
+use Prim.Native.Nat.{ℕ, ◌+◌}
 use mathlib.Core.Path.{◌≡◌, refl, sym, ap, ◌∙◌, subst}
 use mathlib.Core.List.{List, [], ◌∷◌, ◌++◌, append_assoc}
 use mathlib.Core.Bool.{Bool, true, false, cond}
@@ -12,7 +12,6 @@ use Rattle.record.specs.Write.{join, instr_bytes}
 use Rattle.numbering.specs.Number.{save_before, Emitted, is_save, saved_in}
 use Rattle.numbering.proofs.Saves.{Saves, no_saves, one_save, Emits, Original, save_is_save, emitted_no_save}
 use Rattle.write_bytes.specs.Put.{put, Wrote}
-use Rattle.write_bytes.proofs.Put.{put_out}
 use Rattle.write_bytes.proofs.Wrote.{wrote_nothing, wrote_append, wrote_last}
 use Rattle.lvn_state.specs.View.{saves_of}
 use Rattle.lvn_blocks.specs.Block.{body_bytes, saved_by, indexes, lines}
@@ -56,9 +55,6 @@ module _ (l : List ℕ) (k : ℕ) (x : Instr) where
   unfolding put
   noted_one None e = absurd (cc)
   noted_one (Some made) e = refl
-
-  pub noted_past : (m : Maybe NameIx) → length l ≤ k → l ≡ put l k (saved_by (saves_of m x))
-  noted_past m h = sym (put_out l k (saved_by (saves_of m x)) h)
 
   pub noted_none : (m : Maybe NameIx) → is_some m ≡ false → l ≡ put l k (saved_by (saves_of m x))
   unfolding put

@@ -20,9 +20,8 @@ use Rattle.write_bytes.specs.Put.{put, Wrote}
 use Rattle.write_bytes.proofs.Wrote.{Rest, rest_all, rest_less, rest_none}
 use Rattle.read_instrs.specs.declared.Read.{Read}
 use Rattle.read_instrs.specs.Again.{ReadAgain}
-use Rattle.lvn_state.specs.View.{state_of, saves_of}
+use Rattle.lvn_state.specs.View.{saves_of}
 use Rattle.lvn_state.specs.Room.{room}
-use Rattle.lvn_state.specs.declared.LvnState.{LvnState}
 use Rattle.lvn_state.proofs.Room.{Grows, instr_grows}
 use Rattle.lvn_instr.specs.declared.Emitted.{Emitted}
 use Rattle.lvn_instr.specs.View.{emitted_of}
@@ -43,7 +42,7 @@ module _ {N B left : ℕ} (ty : NameIx → ℕ) (s : State) (i : Instr) (h : Ins
   lvn_id b l = subst (λ (n : ℕ). n < b) (sym lvn_emits.id) l
 
 module _
-    (F : Layout) {B left : ℕ} {s : List ℕ} (ty : NameIx → ℕ) (at : Spot) (g : Read) (st : State) (st' : LvnState) (e : Emitted)
+    (F : Layout) {B left : ℕ} {s : List ℕ} (ty : NameIx → ℕ) (at : Spot) (g : Read) (st st' : State) (e : Emitted)
     (h : InstrOk F.names B left (instr_from F.width s at.p))
     (again : ReadAgain F.width s at.p g)
     (done : emitted_of st' e ≡ instr_lvn F.names ty st (instr_of g.instr))
@@ -56,11 +55,11 @@ module _
         made' ≡ put made st.temps (saved_by (saves_of e.made (instr_of e.instr))) →
         Wrote out out' at.q q (body_bytes F.width (saves_of e.made (instr_of e.instr) ++ (instr_of e.instr ∷ []))) →
         q ≤ at.q + longest_lines →
-        Turned F s ty at (record { p = g.next; q = q }) st (state_of st') made made' out out'
+        Turned F s ty at (record { p = g.next; q = q }) st st' made made' out out'
     turned {made} {made'} {out} {out'} {q} m o c =
         let i = instr_from F.width s at.p in
         let x = instr_lvn F.names ty st i in
-        let k : st'.made ≡ x.state.temps = ap (λ (y : EmittedAs). y.state.temps) emitted in
+        let k : st'.temps ≡ x.state.temps = ap (λ (y : EmittedAs). y.state.temps) emitted in
         let a : Wrote made made' st.temps x.state.temps (indexes (saved_in F.names (lines x))) =
         emitted_noted F.names ty i x (instr_original F.names B left ty i h) (lvn_emits ty st i h)
         (m ∙ ap (λ (y : EmittedAs). put made st.temps (saved_by y.saves)) emitted) in
@@ -171,17 +170,19 @@ passing_more :
     Passing N (instr_from w s p ∷ instrs_from w s (instr_end w s p) (n - 1))
 passing_more {N} w s p n h a = subst (Passing N) (instrs_more w s p n h) a
 
-module _ {F : Layout} {s : List ℕ} {st : State} {at : Spot} (n : ℕ) (h : 0 < n) (a : Asks F s st at n) where
+module _ {M N : ℕ} {F : Layout} {s : List ℕ} {st : State} {at : Spot} (n : ℕ) (h : 0 < n) (a : Asks M N F s st at n) where
   pub asks_passes : Passes F.names (instr_from F.width s at.p)
   asks_passes = (passing_more F.width s at.p n h a.passing).0
 
-  pub asks_one : Asks F s st at 1
+  pub asks_one : Asks M N F s st at 1
   unfolding instrs_from items
   asks_one =
       record {
         width = a.width;
+        some = a.some;
+        maps = a.maps;
         names = a.names;
-        numbers = let x : room 256 st + n ≤ 512 = a.numbers in omega (arith, h, x);
+        numbers = let x : room M st + n ≤ N = a.numbers in omega (arith, h, x);
         made = let x : F.names + st.temps + n < 65535 = a.made in omega arith;
         reads = let x : at.p + longest_instr * n < places_end = a.reads in omega arith;
         writes = let x : at.q + longest_lines * n < places_end = a.writes in omega arith;
@@ -192,19 +193,21 @@ module _ {F : Layout} {s : List ℕ} {st : State} {at : Spot} (n : ℕ) (h : 0 <
     abbrev behind_it : State
     behind_it = (instr_lvn F.names ty st (instr_from F.width s at.p)).state
 
-    grows : Grows 256 st behind_it
-    grows = instr_grows 256 F.names ty st (instr_from F.width s at.p) (reads_low (instr_from F.width s at.p) asks_passes.ok a.names ty)
+    grows : Grows M st behind_it
+    grows = instr_grows M F.names ty st (instr_from F.width s at.p) (reads_low (instr_from F.width s at.p) asks_passes.ok a.names ty)
 
     -- m: one less than n
-    pub asks_less : (m : ℕ) → m ≡ n - 1 → Asks F s st' r m
+    pub asks_less : (m : ℕ) → m ≡ n - 1 → Asks M N F s st' r m
     asks_less m one =
         record {
           width = a.width;
+          some = a.some;
+          maps = a.maps;
           names = a.names;
           numbers =
-              let k : room 256 st' ≡ room 256 behind_it = ap (room 256) d.state in
-              let b : room 256 behind_it ≤ suc (room 256 st) = grows.room in
-              let x : room 256 st + n ≤ 512 = a.numbers in
+              let k : room M st' ≡ room M behind_it = ap (room M) d.state in
+              let b : room M behind_it ≤ suc (room M st) = grows.room in
+              let x : room M st + n ≤ N = a.numbers in
               omega (arith, h, one, k, b, x);
           made =
               let k : st'.temps ≡ behind_it.temps = ap (λ (y : State). y.temps) d.state in

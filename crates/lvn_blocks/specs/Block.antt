@@ -9,7 +9,7 @@ use Rattle.record.specs.Sizes.{longest_instr, longest_lines, places_end}
 use Rattle.numbering.specs.State.{State}
 use Rattle.numbering.specs.Number.{Emitted, instr_lvn, block_lvn, saved_in}
 use Rattle.write_bytes.specs.Put.{Wrote, IdWidth}
-use Rattle.lvn_state.specs.Room.{room}
+use Rattle.lvn_state.specs.Room.{room, Maps}
 use Rattle.read_layout.specs.declared.Layout.{Layout}
 use Rattle.lvn_blocks.specs.declared.Spot.{Spot}
 
@@ -28,12 +28,14 @@ indexes xs = map (λ x. x.0) xs
 abbrev pub lines : Emitted → List Instr
 lines e = e.saves ++ (e.instr ∷ [])
 
--- ---- what is asked where n instructions are left, in the state st: that they pass their tests, and that the names of the input, the
--- numbers and made names that they can need, and the places that they reach all have room
-pub record Asks (F : Layout) (s : List ℕ) (st : State) (at : Spot) (n : ℕ) : Type 0 where
+-- ---- what is asked where n instructions are left, in the state st over M names and N numbers: that they pass their tests, and that the
+-- names of the input, the numbers and made names that they can need, and the places that they reach all have room
+pub record Asks (M N : ℕ) (F : Layout) (s : List ℕ) (st : State) (at : Spot) (n : ℕ) : Type 0 where
   pub width : IdWidth F.width
-  pub names : F.names ≤ 256
-  pub numbers : room 256 st + n ≤ 512
+  pub some : 0 < M
+  pub maps : Maps M N
+  pub names : F.names ≤ M
+  pub numbers : room M st + n ≤ N
   pub made : F.names + st.temps + n < 65535
   pub reads : at.p + longest_instr * n < places_end
   pub writes : at.q + longest_lines * n < places_end

@@ -1,5 +1,6 @@
 // The rewriting of a block and of all blocks: instructions of an accepted record read again, numbered and written.
 // Writing past the end does nothing, so that over an empty output the same functions learn the size and K.
+// as: a number that is known to fit, or u64 and usize, which have no From; try_from would hand out an error that cannot be.
 #![tactic(auto)]
 
 ghost use Rattle.std.specs.Prelude.{◌≡◌, List, [], ◌∷◌, ◌++◌, ◌+◌, ◌^◌, ◌<◌, ◌≤◌, length};
@@ -16,21 +17,24 @@ ghost use Rattle.lvn_blocks.specs.Blocks.{BlocksAsk, BlockDone, BlocksDone};
 
 use arith::One;
 use lvn_instr::Emitted;
-use lvn_state::LvnState;
+use lvn_state::{LvnState, NAMES};
+use lvn_values::NUMBERS;
 use read_layout::Layout;
 use record::{Instruction, NameIx};
 
-// An accepted record: its bytes, what its head says, and the types and places of its names.
+// An accepted record: its bytes, what its head says, and the types of its names.
 #[derive(Clone, Copy)]
 pub struct Source<'a> {
     pub reads: &'a [u8],
     pub layout: Layout,
     pub types: &'a [u8],
-    pub places: &'a [u32],
 }
 
+// The state of a block of any record.
+pub type BlockState = LvnState<NAMES, NUMBERS>;
+
 // A place in the input, and the place in the output.
-#[derive(Clone, Copy)]
+#[derive(Clone, Copy, PartialEq, Eq, Debug)]
 pub struct Spot {
     pub p: usize,
     pub q: usize,
@@ -40,7 +44,7 @@ pub struct Spot {
 
 // The save `made = id x` that is owed before an instruction whose dest is x, under its id.
 pub fn save_instr(i: &Instruction, made: NameIx) -> Instruction
-    ensures { (instr_of result ≡ save_before (instr_of i.now) made) × ((result.id ≡ i.now.id) × (result.count ≤ 8)) }
+    ensures { (instr_of result ≡ save_before (instr_of i.now) made) × (result.id ≡ i.now.id) }
 {
     lvn_instr::one_instr(i.id, made, One::Id, i.dest)
 }
@@ -60,7 +64,7 @@ pub fn put_save(out: &mut [u8], at: usize, w: usize, e: &Emitted) -> usize
 // That save, and the instruction; the place behind them.
 pub fn put_lines(out: &mut [u8], at: usize, w: usize, e: &Emitted) -> usize
     requires { (at + longest_instr < places_end) ×
-        (IdWidth w × ((e.now.instr.id < 256 ^ w) × (e.now.instr.count ≤ 8))) }
+        (IdWidth w × (e.now.instr.id < 256 ^ w)) }
     ensures { Wrote out.old out.new at result
         (body_bytes w (saves_of e.now.made (instr_of e.now.instr) ++ (instr_of e.now.instr ∷ []))) ×
         (result ≤ at + longest_lines) }
@@ -74,22 +78,20 @@ pub fn note_save(names: &mut [u16], k: u16, e: &Emitted)
     ensures { names.new ≡ put names.old k (saved_by (saves_of e.now.made (instr_of e.now.instr))) }
 {
     if e.made.is_some() {
-        let at = k as usize;
-        if at < names.len() {
-            names[at] = e.instr.dest.0;
-        }
+        read_layout::store(names, usize::from(k), e.instr.dest.0);
     }
 }
 
-// One instruction of a block; names: what each K saved.
-pub fn turn_once(
-    st: &mut LvnState,
+// One instruction of a block; names: what each K saved. names and out are a parameter each, here and in rewrite: a struct of the two lent slices
+// was tried. What is lent it proves, but who makes it cannot show what then stands in the slices.
+pub fn turn_once<const M: usize, const N: usize>(
+    st: &mut LvnState<M, N>,
     src: &Source,
     names: &mut [u16],
     out: &mut [u8],
     at: Spot,
 ) -> Spot
-    requires { Asks src.now.layout src.now.reads.now (state_of st.old) at 1 }
+    requires { Asks M N src.now.layout src.now.reads.now (state_of st.old) at 1 }
     ensures { Turned src.now.layout src.now.reads.now (type_in src.now.types.now) at result
         (state_of st.old) (state_of st.new) names.old names.new out.old out.new }
 {
@@ -102,15 +104,15 @@ pub fn turn_once(
 }
 
 // The instructions of a block, so many, from a place on.
-pub fn body_lvn(
-    st: &mut LvnState,
+pub fn body_lvn<const M: usize, const N: usize>(
+    st: &mut LvnState<M, N>,
     src: &Source,
     names: &mut [u16],
     out: &mut [u8],
     from: Spot,
     count: usize,
 ) -> Spot
-    requires { Asks src.now.layout src.now.reads.now (state_of st.old) from count }
+    requires { Asks M N src.now.layout src.now.reads.now (state_of st.old) from count }
     ensures { Done src.now.layout src.now.reads.now (type_in src.now.types.now) from result
         (state_of st.old) (state_of st.new) count names.old names.new out.old out.new }
 {
@@ -132,15 +134,16 @@ pub fn put_block_head(out: &mut [u8], at: usize, n: u16, saves: u16)
     write_bytes::put_u16(out, at + 2, saves);
 }
 
-// K, which runs on from block to block, and the saves of all blocks so far.
-#[derive(Clone, Copy)]
+// K, which runs on from block to block, and the saves of all blocks so far. Over all blocks of a record both begin at 0 and are one number;
+// block_lvn is asked for them apart, as of blocks that others stand before (DECISIONS 38).
+#[derive(Clone, Copy, PartialEq, Eq, Debug)]
 pub struct SaveCount {
     pub k: u16,
     pub total: u16,
 }
 
 // The place behind a block, and the count there.
-#[derive(Clone, Copy)]
+#[derive(Clone, Copy, PartialEq, Eq, Debug)]
 pub struct Behind {
     pub at: Spot,
     pub count: SaveCount,
@@ -149,7 +152,7 @@ pub struct Behind {
 // One block, the count lent to it and advanced: its instructions, then, before them, its head; the place behind it.
 pub fn block_lvn(
     count: &mut SaveCount,
-    st: &mut LvnState,
+    st: &mut BlockState,
     src: &Source,
     names: &mut [u16],
     out: &mut [u8],
@@ -180,14 +183,12 @@ pub fn note_figure(s: &[u8], each: &mut [u16], i: usize, p: usize, saves: u16)
     requires { (p < places_end) × (num_at s.now p 2 + saves < 65536) }
     ensures { each.new ≡ put each.old i ((num_at s.now p 2 + saves) ∷ []) }
 {
-    if i < each.len() {
-        each[i] = read_fields::be::<2>(s, p) as u16 + saves;
-    }
+    read_layout::store(each, i, read_fields::be::<2>(s, p) as u16 + saves);
 }
 
 // All blocks, from a place on; each: a table for how many instructions are written of each block.
 pub fn blocks_lvn(
-    st: &mut LvnState,
+    st: &mut BlockState,
     src: &Source,
     names: &mut [u16],
     each: &mut [u16],

@@ -1,7 +1,7 @@
 -- The form of an instruction by its operation, and the arguments that it reads.
 use Prim.Native.Nat.{ℕ, zero, suc, ◌<◌}
 use mathlib.Core.Path.{◌≡◌, refl, sym, ap, ◌∙◌}
-use mathlib.Core.List.{List, [], ◌∷◌}
+use mathlib.Core.List.{List, [], ◌∷◌, map}
 use native.Mathlib.Omega.{arith}
 use lib.ListN.{length, get_or}
 use Rattle.arith.specs.declared.One.{One}
@@ -12,7 +12,7 @@ use Rattle.record.specs.declared.Op.TheVariants as ops
 use Rattle.record.specs.declared.Instruction.{Instruction}
 use Rattle.record.specs.Record.{nm, arg}
 use Rattle.record.specs.Form.{form}
-use Rattle.record.specs.View.{instr_of}
+use Rattle.record.specs.View.{row_of, instr_of}
 use Rattle.numbering.specs.Number.{reads}
 use Rattle.codes.specs.Op.{form_as}
 use Rattle.codes.proofs.Op.{form_op}
@@ -35,20 +35,20 @@ module _ (i : Instruction) (ready : Ready i) where
   abbrev untyped : NameIx → ℕ
   untyped x = 0
 
-  op_reads : (o : Op) → i.op ≡ o → reads (form_as o untyped (instr_of i)) ≡ names_in i.count i.args
+  op_reads : (o : Op) → i.op ≡ o → reads (form_as o untyped (instr_of i)) ≡ map nm (row_of i.args)
   unfolding instr_of
   op_reads o e = sym (ap reads (instr_form untyped o e)) ∙ ready.reading untyped
 
-  pub one_arg : (o : One) → i.op ≡ ops.One o → arg (instr_of i) 0 ≡ nm (get_or i.args 0 0)
+  pub one_arg : (o : One) → i.op ≡ ops.One o → arg (instr_of i) 0 ≡ nm (get_or i.args.items 0 0)
   unfolding instr_of reads
   one_arg o e =
-      let l : 1 ≡ length (names_in i.count i.args) = ap length (op_reads (ops.One o) e) in
-      arg_at 0 i.count i.args (omega arith)
+      let l : 1 ≡ length (map nm (row_of i.args)) = ap length (op_reads (ops.One o) e) in
+      arg_at 0 i.args.count i.args.items (omega arith)
 
   pub two_args :
       (o : Two) → i.op ≡ ops.Two o →
-      (arg (instr_of i) 0 ≡ nm (get_or i.args 0 0)) × (arg (instr_of i) 1 ≡ nm (get_or i.args 1 0))
+      (arg (instr_of i) 0 ≡ nm (get_or i.args.items 0 0)) × (arg (instr_of i) 1 ≡ nm (get_or i.args.items 1 0))
   unfolding instr_of reads
   two_args o e =
-      let l : 2 ≡ length (names_in i.count i.args) = ap length (op_reads (ops.Two o) e) in
-      (arg_at 0 i.count i.args (omega arith), arg_at 1 i.count i.args (omega arith))
+      let l : 2 ≡ length (map nm (row_of i.args)) = ap length (op_reads (ops.Two o) e) in
+      (arg_at 0 i.args.count i.args.items (omega arith), arg_at 1 i.args.count i.args.items (omega arith))

@@ -1,3 +1,4 @@
 pub mod Forms
+pub mod Alike
 pub mod Values
 pub mod Placed

@@ -133,12 +133,12 @@ settled_next s x (some e) = settled_at_next s x e (get_val_num s e)
 
 -- seeing arguments asks for no more room
 pub seen_next :
-    (s : State) (xs : List NameIx) (t : State) → t ≡ gen_new_vals s xs → Low 256 xs → room 256 s < 512 → t.next < 512
-seen_next s xs t e low h =
+    (m n : ℕ) (s : State) (xs : List NameIx) (t : State) → t ≡ gen_new_vals s xs → Low m xs → room m s < n → t.next < n
+seen_next m n s xs t e low h =
     let g = gen_new_vals s xs in
-    let n : t.next ≡ g.next = ap (λ (u : State). u.next) e in
-    let a : g.next ≤ room 256 g = next_room 256 g in
-    let b : room 256 g ≡ room 256 s = gen_room 256 s xs low in
+    let j : t.next ≡ g.next = ap (λ (u : State). u.next) e in
+    let a : g.next ≤ room m g = next_room m g in
+    let b : room m g ≡ room m s = gen_room m s xs low in
     omega arith
 
 pub seen_temps : (s : State) (xs : List NameIx) (t : State) → t ≡ gen_new_vals s xs → t.temps ≡ s.temps

@@ -105,13 +105,13 @@ module _ (i : Instruction) (ready : Ready i) (s : State) (t : NameIx → ℕ) wh
   unfolding instr_of
   const_arm e = sym (ap (value_by s) (instr_form i ready t ops.Const e))
 
-  pub one_arm : (o : One) → i.op ≡ ops.One o → make_val s (one o (nm (get_or i.args 0 0))) ≡ value_by s (form t (instr_of i))
+  pub one_arm : (o : One) → i.op ≡ ops.One o → make_val s (one o (nm (get_or i.args.items 0 0))) ≡ value_by s (form t (instr_of i))
   one_arm o e =
       sym (ap (value_by s) (instr_form i ready t (ops.One o) e) ∙ ap (λ (x : NameIx). make_val s (one o x)) (one_arg i ready o e))
 
   pub two_arm :
       (o : Two) → i.op ≡ ops.Two o →
-      make_val s (two o (nm (get_or i.args 0 0)) (nm (get_or i.args 1 0))) ≡ value_by s (form t (instr_of i))
+      make_val s (two o (nm (get_or i.args.items 0 0)) (nm (get_or i.args.items 1 0))) ≡ value_by s (form t (instr_of i))
   two_arm o e =
       let xs = two_args i ready o e in
       sym (ap (value_by s) (instr_form i ready t (ops.Two o) e) ∙ (λ j. make_val s (two o (xs.0 j) (xs.1 j))))

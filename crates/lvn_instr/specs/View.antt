@@ -1,5 +1,5 @@
 -- What the code of one instruction speaks of: instructions by their operation, and its answers as those of the definitions.
-use Rattle.std.specs.Prelude.{ℕ, ◌+◌, ◌<◌, ◌≤◌, ◌≡◌, Bool, true, false, cond}
+use Rattle.std.specs.Prelude.{ℕ, ◌+◌, ◌<◌, ◌≡◌, Bool, true, false, cond}
 use Rattle.std.proofs.Math.Option.{Option, none, some}
 use Rattle.arith.specs.Value.{Val}
 use Rattle.arith.specs.Operation.{Expr}
@@ -17,15 +17,13 @@ use Rattle.numbering.specs.Number.{reads, make_val, make_id_instr, val_to_instr,
 use Rattle.numbering.specs.View.{expr_of}
 use Rattle.numbering.proofs.Simplified.{MaybeOk}
 use Rattle.codes.specs.Op.{op_of}
-use Rattle.lvn_state.specs.declared.LvnState.{LvnState}
-use Rattle.lvn_state.specs.View.{state_of, saves_of}
-use Rattle.lvn_state.specs.Room.{Low}
+use Rattle.lvn_state.specs.View.{saves_of}
+use Rattle.lvn_state.specs.Room.{Low, Maps}
 use Rattle.lvn_instr.specs.declared.Emitted.{Emitted}
 
 -- ---- what is asked of an instruction
 -- its operation is that of its code, and it reads its arguments
 pub record Ready (i : Instruction) : Type 0 where
-  pub few : i.count ≤ 8
   pub coded : op_of (code_of i.op) ≡ i.op
   pub reading : (t : NameIx → ℕ) → reads (form t (instr_of i)) ≡ (instr_of i).args
 
@@ -45,16 +43,21 @@ value_by s nop = none
 value_by s (jump b) = none
 value_by s (branch a b c) = none
 
+-- whether a state has the numbers of names and the values of another
+abbrev pub Reads : State → State → Type 0
+Reads s t = (s.env ≡ t.env) × (s.vals ≡ t.vals)
+
 -- no constant is refused
 abbrev pub Any : Val → Type 0
 Any v = Unit {0}
 
--- what is asked where i, whose value is v, is placed: that dest, the next number and the next made name have room
-pub record Placeable (st : LvnState) (n : ℕ) (i : Instruction) (v : Value) : Type 0 where
-  pub few : i.count ≤ 8
-  pub dest : i.dest.0 < 256
-  pub number : st.values.count < 512
-  pub made : n + st.made < 65535
+-- what is asked where i, whose value is v, is placed: that dest, the next number and the next made name have room among so many names and
+-- numbers
+pub record Placeable (names numbers : ℕ) (s : State) (n : ℕ) (i : Instruction) (v : Value) : Type 0 where
+  pub dest : i.dest.0 < names
+  pub number : s.next < numbers
+  pub made : n + s.temps < 65535
+  pub maps : Maps names numbers
   pub operand : MaybeOk Any 65535 (expr_of v)
 
 -- ---- what is written
@@ -83,5 +86,6 @@ has_dest Ret = false
 abbrev pub by_op : ℕ → State → Instr → Op → Option (Expr ValNum) → EmittedAs
 by_op N s i o e = cond (has_dest o) (place N s i e) (unchanged s i)
 
-abbrev pub emitted_of : LvnState → Emitted → EmittedAs
-emitted_of st r = record { state = state_of st; saves = saves_of r.made (instr_of r.instr); instr = instr_of r.instr }
+-- an answer, with the state behind it
+abbrev pub emitted_of : State → Emitted → EmittedAs
+emitted_of s r = record { state = s; saves = saves_of r.made (instr_of r.instr); instr = instr_of r.instr }

@@ -178,11 +178,7 @@ pub fn absorb(z: bool, x: Operand, y: Operand) -> Option<Value>
 pub fn identity_eq(x: Operand, y: Operand) -> Option<Value>
     ensures { (u v : Option Val) → found_of result ≡ mapped some (identity two_operands.Eq u v x.num y.num) }
 {
-    if x.num.0 == y.num.0 {
-        Some(Value::Constant(Constant::Bool(true)))
-    } else {
-        None
-    }
+    (x.num == y.num).then_some(Value::Constant(Constant::Bool(true)))
 }
 
 // "p ptradd 0 is id p": of the int alone something can be known.
@@ -190,11 +186,7 @@ pub fn identity_eq(x: Operand, y: Operand) -> Option<Value>
 pub fn identity_ptr_add(x: Operand, y: Operand) -> Option<Value>
     ensures { (u : Option Val) → found_of result ≡ mapped some (identity two_operands.PtrAdd u (known_of y.known) x.num y.num) }
 {
-    if is_int(0, y.known) {
-        Some(Value::One(One::Id, x.num))
-    } else {
-        None
-    }
+    is_int(0, y.known).then_some(Value::One(One::Id, x.num))
 }
 
 // The identity that holds of an operator and what is known of its operands.
@@ -219,7 +211,7 @@ pub fn identity(o: Two, x: Operand, y: Operand) -> Option<Value>
 pub fn sort_val_nums(o: Two, a: ValNum, b: ValNum) -> Value
     ensures { expr_of result ≡ some (sorted o a b) }
 {
-    if b.0 < a.0 {
+    if b < a {
         Value::Two(o, b, a)
     } else {
         Value::Two(o, a, b)

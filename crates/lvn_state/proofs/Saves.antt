@@ -1,15 +1,13 @@
 -- The save before an instruction: the cases of the definition, and the stores as its step.
-use Prim.Native.Nat.{ℕ, ◌+◌, ◌<◌, ◌≤◌}
+use Prim.Native.Nat.{ℕ, ◌+◌, ◌<◌}
 use mathlib.Core.Path.{◌≡◌, refl, sym, ap, ◌∙◌}
 use mathlib.Core.Logic.{◌≢◌}
 use mathlib.Core.Bool.{true, false}
 use mathlib.Core.List.{List}
 use mathlib.Core.Option.{Option, none, some}
 use Rattle.std.specs.Prelude.{Option as Maybe, None, Some}
-use native.Mathlib.Decide.{ℕ_discrete}
 use native.Mathlib.Numerals.{add-one}
-use native.Mathlib.Omega.{arith}
-use lib.ListN.{length, get_or, set}
+use lib.ListN.{length, set}
 use borrow.Author.Tests.{eqb-true, eqb-false}
 use Rattle.arith.proofs.Clash.{clash}
 use Rattle.arith.specs.declared.One.TheVariants.{Not, Id}
@@ -18,11 +16,11 @@ use Rattle.arith.proofs.Map.{pick_yes, pick_no}
 use Rattle.record.specs.declared.NameIx.{NameIx}
 use Rattle.record.specs.Record.{nm, NameIx-discrete, Instr}
 use Rattle.numbering.specs.declared.ValNum.{ValNum}
-use Rattle.numbering.specs.State.{vn, State, rehome}
+use Rattle.numbering.specs.State.{State, rehome}
 use Rattle.numbering.specs.Number.{no_save, save, save_at, handle_overwrite}
 use Rattle.lvn_values.specs.Table.{vals_of}
 use Rattle.lvn_state.specs.View.{env_of, locs_of, state_with, saves_of, itself}
-use Rattle.lvn_state.proofs.Views.{env_none, env_some, locs_in, locs_past, locs_set}
+use Rattle.lvn_state.proofs.Views.{locs_set}
 
 -- ---- "unless that reads exactly `x = id x`"
 module _ (N : ℕ) (s : State) (i : Instr) where
@@ -62,7 +60,7 @@ module _ (N : ℕ) (s : State) (i : Instr) where
     save_away h = ap (save_at N s i) e ∙ pick_no (NameIx-discrete (s.locs v) i.dest) (save N s i v) (no_save s) h
 
 -- ---- the code's cases
-module _ (env homes hs ns : List ℕ) (count made n : ℕ) (x : NameIx) (hx : x.0 < length env) (e : Option (Expr ValNum)) where
+module _ (env homes hs ns : List ℕ) (count made n : ℕ) (x : NameIx) (e : Option (Expr ValNum)) where
   abbrev before : State
   before = state_with env homes hs ns count made
 
@@ -80,51 +78,30 @@ module _ (env homes hs ns : List ℕ) (count made n : ℕ) (x : NameIx) (hx : x.
     other : (i : Instr) → i.dest ≡ x → handle_overwrite n before i e ≡ save_at n before i (env_of env i.dest)
     other i q = overwrite_other n before i e (ap (λ (y : NameIx). itself (locs_of homes) y e) q ∙ t)
 
-    away : (v : ValNum) → env_of env x ≡ some v → locs_of homes v ≢ x → Stays
-    away v p h i q = sym (other i q ∙ save_away n before i v (ap (env_of env) q ∙ p) (λ r. h (r ∙ q)))
+    pub kept_unnumbered : env_of env x ≡ none → Stays
+    kept_unnumbered p i q = sym (other i q ∙ save_none n before i (ap (env_of env) q ∙ p))
 
-    -- no number, or one past the end, whose home is nobody
-    pub kept_past : length homes ≤ get_or env x.0 0 → x.0 < 65535 → Stays
-    kept_past l b = by (ℕ_discrete (get_or env x.0 0) 65535)
-      where
-        by : Dec (get_or env x.0 0 ≡ 65535) → Stays
-        by (yes p) = λ i q. sym (other i q ∙ save_none n before i (ap (env_of env) q ∙ env_none env x hx p))
-        by (no p) =
-            away (vn (get_or env x.0 0)) (env_some env x hx (get_or env x.0 0) refl p)
-            (λ r.
-            let z : 65535 ≡ x.0 =
-            ap (λ (y : NameIx). y.0) (sym (locs_past homes (vn (get_or env x.0 0)) (omega arith)) ∙ r) in
-            omega arith)
-
-    module _ (l : get_or env x.0 0 < length homes) (k : length homes ≤ 65535) where
-      number : env_of env x ≡ some (vn (get_or env x.0 0))
-      number = env_some env x hx (get_or env x.0 0) refl (λ p. omega arith)
-
-      home : locs_of homes (vn (get_or env x.0 0)) ≡ nm (get_or homes (get_or env x.0 0) 0)
-      home = locs_in homes (vn (get_or env x.0 0)) (omega arith)
-
-      pub kept_away : get_or homes (get_or env x.0 0) 0 ≢ x.0 → Stays
-      kept_away h = away (vn (get_or env x.0 0)) number (λ r. h (ap (λ (y : NameIx). y.0) (sym home ∙ r)))
+    module _ (v : ValNum) (number : env_of env x ≡ some v) where
+      pub kept_away : locs_of homes v ≢ x → Stays
+      kept_away h i q = sym (other i q ∙ save_away n before i v (ap (env_of env) q ∙ number) (λ r. h (r ∙ q)))
 
       -- the made name becomes the home
       abbrev moved : State
-      moved = state_with env (set homes (get_or env x.0 0) (n + made)) hs ns count (made + 1)
+      moved = state_with env (set homes v.0 (n + made)) hs ns count (made + 1)
 
-      rehomed : moved ≡ rehome before (vn (get_or env x.0 0)) (nm (n + made))
+      rehomed : v.0 < length homes → moved ≡ rehome before v (nm (n + made))
       unfolding rehome
-      rehomed =
+      rehomed l =
           λ j. record {
             env = env_of env;
-            locs = locs_set homes (vn (get_or env x.0 0)) (nm (n + made)) (omega arith) j;
+            locs = locs_set homes v (nm (n + made)) l j;
             vals = vals_of hs ns count;
             next = count;
             temps = add-one made j;
           }
 
-      pub save_made : get_or homes (get_or env x.0 0) 0 ≡ x.0 → Overwritten moved (Some (nm (n + made)))
+      pub save_made : locs_of homes v ≡ x → v.0 < length homes → Overwritten moved (Some (nm (n + made)))
       unfolding save
-      save_made h i q =
-          let v = vn (get_or env x.0 0) in
-          let at : locs_of homes v ≡ i.dest = home ∙ (λ j. nm (h j)) ∙ sym q in
-          ap (λ (t : State). record { state = t; saves = (save n before i v).saves }) rehomed ∙
-          sym (other i q ∙ save_home n before i v (ap (env_of env) q ∙ number) at)
+      save_made h l i q =
+          ap (λ (t : State). record { state = t; saves = (save n before i v).saves }) (rehomed l) ∙
+          sym (other i q ∙ save_home n before i v (ap (env_of env) q ∙ number) (h ∙ sym q))

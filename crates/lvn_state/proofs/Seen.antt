@@ -32,25 +32,25 @@ pub seen_all : (s : State) (l : List ℕ) (i : ℕ) → length l ≤ i → gen_n
 unfolding gen_new_vals
 seen_all s l i h = let z : drop i l ≡ [] = drop_of_length-le l h in rw z
 
--- ---- the loop over the arguments l, whose rest from i on is seen in the state s
-pub record Seeing (s₀ : State) (l : List ℕ) (s : State) (i : ℕ) : Type 0 where
-  pub low : Low 256 (map nm (drop i l))
-  pub fits : room 256 s < 512
+-- ---- the loop over the arguments l, whose rest from i on is seen in the state s; m: how many names there can be, n: how many numbers
+pub record Seeing (m n : ℕ) (s₀ : State) (l : List ℕ) (s : State) (i : ℕ) : Type 0 where
+  pub low : Low m (map nm (drop i l))
+  pub fits : (room m s < n) × (room m s < 65535)
   pub seen : gen_new_vals s (map nm (drop i l)) ≡ gen_new_vals s₀ (map nm l)
 
-module _ {s₀ : State} {l : List ℕ} {s : State} {i : ℕ} (a : Seeing s₀ l s i) (h : i < length l) where
-  pub name_low : get_or l i 0 < 256
-  name_low = low_first l i h 256 a.low
+module _ {m n : ℕ} {s₀ : State} {l : List ℕ} {s : State} {i : ℕ} (a : Seeing m n s₀ l s i) (h : i < length l) where
+  pub name_low : get_or l i 0 < m
+  name_low = low_first l i h m a.low
 
-  pub next_low : s.next < 512
-  next_low = omega (arith, next_room 256 s, a.fits)
+  pub next_low : (s.next < n) × (s.next < 65535)
+  next_low = (omega (arith, next_room m s, a.fits.0), omega (arith, next_room m s, a.fits.1))
 
-  pub seeing_more : (t : State) → t ≡ see s (nm (get_or l i 0)) → Seeing s₀ l t (i + 1)
+  pub seeing_more : (t : State) → t ≡ see s (nm (get_or l i 0)) → Seeing m n s₀ l t (i + 1)
   seeing_more t e =
-      let r : room 256 t ≡ room 256 s = ap (room 256) e ∙ see_room 256 s (nm (get_or l i 0)) name_low in
+      let r : room m t ≡ room m s = ap (room m) e ∙ see_room m s (nm (get_or l i 0)) name_low in
       record {
-        low = low_rest l i h 256 a.low;
-        fits = omega (arith, r, a.fits);
+        low = low_rest l i h m a.low;
+        fits = subst (λ (k : ℕ). (k < n) × (k < 65535)) (sym r) a.fits;
         seen = ap (λ (u : State). gen_new_vals u (map nm (drop (i + 1) l))) e ∙ seen_first l i h s ∙ a.seen;
       }
 

@@ -2,12 +2,14 @@
 use Prim.Native.Nat.{ℕ, zero, suc, ◌<◌, ◌≤◌}
 use mathlib.Core.Path.{◌≡◌, refl, sym, ap, ◌∙◌, fun_ext}
 use mathlib.Core.Logic.{◌≢◌}
+use mathlib.Core.Bool.{Bool, true, false}
 use mathlib.Core.List.{List, [], ◌∷◌}
 use mathlib.Core.Option.{none, some}
 use native.Mathlib.Omega.{arith}
+use lib.Dec.{ltb}
 use lib.ListN.{length, get_or, set}
 use lib.Seq.{get_or-set_same, get_or-set_other}
-use borrow.Author.Tests.{ne_eqb}
+use borrow.Author.Tests.{ne_eqb, ltb-true, ltb-false}
 use Rattle.arith.specs.Map.{upd}
 use Rattle.arith.proofs.Map.{upd_same, upd_other}
 use Rattle.record.specs.declared.NameIx.{NameIx}
@@ -53,6 +55,17 @@ module _ (l : List ℕ) (v : ValNum) where
   pub locs_past : length l ≤ v.0 → locs_of l v ≡ nm 65535
   unfolding locs_of
   locs_past h = ap nm (past l v.0 65535 h)
+
+  -- a home that is a name is one of the map
+  pub home_inside : (x : NameIx) → locs_of l v ≡ x → x.0 < 65535 → v.0 < length l
+  home_inside x e h = by (ltb v.0 (length l)) refl
+    where
+      by : (b : Bool) → ltb v.0 (length l) ≡ b → v.0 < length l
+      by true t = ltb-true v.0 (length l) t
+      by false t =
+          let p : length l ≤ v.0 = ltb-false v.0 (length l) t in
+          let z : 65535 ≡ x.0 = ap (λ (y : NameIx). y.0) (sym (locs_past p) ∙ e) in
+          absurd (omega arith)
 
 -- ---- stores
 module _ (l : List ℕ) (x : NameIx) (v : ValNum) (h : x.0 < length l) (n : v.0 ≢ 65535) where

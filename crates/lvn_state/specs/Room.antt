@@ -1,5 +1,5 @@
--- The numbers that a block can still need: the next number, and one for each name that has none.
-use Rattle.std.specs.Prelude.{ℕ, zero, suc, ◌+◌, ◌<◌, List, [], ◌∷◌}
+-- The numbers that a block can still need: the next number, and one for each name that has none. And how long the maps can be.
+use Rattle.std.specs.Prelude.{ℕ, zero, suc, ◌+◌, ◌<◌, ◌≤◌, List, [], ◌∷◌}
 use Rattle.std.proofs.Math.Option.{Option, none, some}
 use Rattle.record.specs.declared.NameIx.{NameIx}
 use Rattle.record.specs.Record.{nm}
@@ -23,3 +23,8 @@ free (suc m) f = gap (f (nm m)) + free m f
 -- with m names
 unfoldable pub room : ℕ → State → ℕ
 room m s = s.next + free m s.env
+
+-- 65535, which stands for none, is past the end of both maps: the numbers of names and the homes of numbers
+pub record Maps (m n : ℕ) : Type 0 where
+  pub names : m ≤ 65535
+  pub numbers : n ≤ 65535

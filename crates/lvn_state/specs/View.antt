@@ -33,7 +33,7 @@ state_with env homes hs ns count made =
       temps = made;
     }
 
-abbrev pub state_of : LvnState → State
+abbrev pub state_of : {m n : ℕ} → LvnState m n → State
 state_of s = state_with s.env s.homes s.values.heads s.values.nums s.values.count s.made
 
 -- the first n of an instruction's arguments
@@ -45,7 +45,7 @@ abbrev pub saves_of : Maybe NameIx → Instr → List Instr
 saves_of None i = []
 saves_of (Some made) i = save_before i made ∷ []
 
-abbrev pub saved_of : LvnState → Maybe NameIx → Instr → SavedAs
+abbrev pub saved_of : {m n : ℕ} → LvnState m n → Maybe NameIx → Instr → SavedAs
 saved_of s made i = record { state = state_of s; saves = saves_of made i }
 
 -- whether a value's instruction reads exactly `x = id x`

@@ -14,36 +14,37 @@ ghost use Rattle.numbering.specs.View.{expr_of};
 ghost use Rattle.lvn_simplify.specs.View.{known_of};
 ghost use Rattle.lvn_values.specs.Table.{numbered_of, val_num_of};
 ghost use Rattle.lvn_state.specs.View.{state_of, saved_of, itself, settled};
-ghost use Rattle.lvn_state.specs.Room.{Low, room};
+ghost use Rattle.lvn_state.specs.Room.{Low, room, Maps};
 
 use arith::One;
-use lvn_values::{NUMBERS, Values};
+use lvn_values::Values;
 use numbering::{Constant, ValNum, Value};
 use record::NameIx;
 
 // So many names a record may have.
 pub const NAMES: usize = 256;
 
-// What the maps hold for a name that has no number, and for a number that is not given: a table of u16 is half as long as one of Options.
+// What the maps hold for a name that has no number, and for a number that is not given. Memory is fixed, and the maps of a block are copied
+// and filled whole: an array of Options is twice as long.
 const NONE: u16 = 65535;
 
-// env: the number of each name; homes: the home of each number; values: the value of each number; made: K.
+// env: the number of each of M names; homes: the home of each of N numbers; values: the value of each number; made: K.
 #[derive(Drop)]
-pub struct LvnState {
-    env: [u16; NAMES],
-    homes: [u16; NUMBERS],
-    values: Values,
+pub struct LvnState<const M: usize, const N: usize> {
+    env: [u16; M],
+    homes: [u16; N],
+    values: Values<N>,
     made: u16,
 }
 
-impl LvnState {
+impl<const M: usize, const N: usize> LvnState<M, N> {
     // Before the first block's `restart`. All of it is zeros, so that it is made in its place by one fill, and not copied there.
     pub fn new() -> Self
         ensures { result.made ≡ 0 }
     {
         LvnState {
-            env: [0; NAMES],
-            homes: [0; NUMBERS],
+            env: [0; M],
+            homes: [0; N],
             values: Values::new(),
             made: 0,
         }
@@ -51,16 +52,23 @@ impl LvnState {
 
     // At a block's start: the arguments have the first numbers and are their own homes; nothing is known of them.
     pub fn restart(&mut self, args: u16, k: u16)
-        requires { args ≤ 256 }
+        requires { (args ≤ M) × (args ≤ N) }
         ensures { state_of self.new ≡ start args k }
     {
-        self.env = [NONE; NAMES];
-        self.homes = [NONE; NUMBERS];
+        self.env.fill(NONE);
+        self.homes.fill(NONE);
         self.values.clear();
         self.made = k;
         for i in 0..args {
             self.give(NameIx(i), Value::Unique);
         }
+    }
+
+    // How many numbers are given: the next number.
+    pub fn count(&self) -> u16
+        ensures { (result ≡ (state_of self.now).next) × (result ≤ N) }
+    {
+        self.values.count()
     }
 
     // K, how many names are made.
@@ -74,8 +82,8 @@ impl LvnState {
     pub fn number(&self, x: NameIx) -> Option<ValNum>
         ensures { (numbered_of result ≡ (state_of self.now).env x) × IfSome result (λ v. v.0 < 65535) }
     {
-        let i = x.0 as usize;
-        if i >= NAMES || self.env[i] == NONE {
+        let i = usize::from(x.0);
+        if i >= M || self.env[i] == NONE {
             return None;
         }
         Some(ValNum(self.env[i]))
@@ -88,12 +96,13 @@ impl LvnState {
         self.number(x).unwrap_or(ValNum(0))
     }
 
-    // The home of a number.
+    // The home of a number. One that is not given has 65535, the definitions' nobody: there every number has a home, and an Option would be
+    // opened at each argument, whose number is always given.
     pub fn home(&self, v: ValNum) -> NameIx
         ensures { result ≡ (state_of self.now).locs v }
     {
-        let i = v.0 as usize;
-        if i >= NUMBERS {
+        let i = usize::from(v.0);
+        if i >= N {
             return NameIx(NONE);
         }
         NameIx(self.homes[i])
@@ -115,26 +124,26 @@ impl LvnState {
 
     // The next number: for x, whose home it is, with the value v.
     pub fn give(&mut self, x: NameIx, v: Value)
-        requires { (x.0 < 256) × (self.old.values.count < 512) }
+        requires { (x.0 < M) × ((self.old.values.count < N) × (self.old.values.count < 65535)) }
         ensures { state_of self.new ≡ new_number (state_of self.old) x (expr_of v) }
     {
         let k = self.values.count();
         self.values.push(v);
-        self.homes[k as usize] = x.0;
-        self.env[x.0 as usize] = k;
+        self.homes[usize::from(k)] = x.0;
+        self.env[usize::from(x.0)] = k;
     }
 
     // x takes the number v.
     pub fn update_env(&mut self, x: NameIx, v: ValNum)
-        requires { (x.0 < 256) × (v.0 ≢ 65535) }
+        requires { (x.0 < M) × (v.0 ≢ 65535) }
         ensures { state_of self.new ≡ update_env (state_of self.old) x v }
     {
-        self.env[x.0 as usize] = v.0;
+        self.env[usize::from(x.0)] = v.0;
     }
 
     // An argument: where it has no number it gets the next one, of which nothing is known.
     pub fn see(&mut self, x: NameIx)
-        requires { (x.0 < 256) × (self.old.values.count < 512) }
+        requires { (x.0 < M) × ((self.old.values.count < N) × (self.old.values.count < 65535)) }
         ensures { state_of self.new ≡ see (state_of self.old) x }
     {
         if self.number(x).is_none() {
@@ -144,7 +153,7 @@ impl LvnState {
 
     // Numbers arguments, left to right, where they have no number.
     pub fn gen_new_vals(&mut self, args: &[u16])
-        requires { Low 256 (map nm args.now) × (room 256 (state_of self.old) < 512) }
+        requires { Low M (map nm args.now) × ((room M (state_of self.old) < N) × (room M (state_of self.old) < 65535)) }
         ensures { state_of self.new ≡ gen_new_vals (state_of self.old) (map nm args.now) }
     {
         for x in args {
@@ -154,7 +163,8 @@ impl LvnState {
 
     // Dest takes the number of the value v, which is handed back; where v has none, the next one, whose home is dest.
     pub fn number_dest(&mut self, dest: NameIx, v: Value) -> Option<ValNum>
-        requires { (dest.0 < 256) × ((self.old.values.count < 512) × ((a : ValNum) → expr_of v ≡ some (one Id a) → a.0 ≢ 65535)) }
+        requires { (dest.0 < M) × ((self.old.values.count < N) × ((self.old.values.count < 65535) ×
+            ((a : ValNum) → expr_of v ≡ some (one Id a) → a.0 ≢ 65535))) }
         ensures { (numbered_of result ≡ val_num_of (state_of self.old) (expr_of v)) ×
             (state_of self.new ≡ settled (state_of self.old) dest (expr_of v)) }
     {
@@ -173,19 +183,19 @@ impl LvnState {
     // Before dest is written: if it is the home of its present number, a made name becomes the home and K is raised, unless the
     // instruction reads exactly `x = id x`. The made name is handed back. n: how many names the input has.
     pub fn handle_overwrite(&mut self, n: u16, dest: NameIx, v: Value) -> Option<NameIx>
-        requires { (dest.0 < 256) × (n + self.old.made < 65535) }
+        requires { (dest.0 < M) × ((n + self.old.made < 65535) × Maps M N) }
         ensures { (i : Instr) → i.dest ≡ dest →
             saved_of self.new result i ≡ handle_overwrite n (state_of self.old) i (expr_of v) }
     {
         if self.writes_home(dest, v) {
             return None;
         }
-        let num = self.env[dest.0 as usize] as usize;
-        if num >= NUMBERS || self.homes[num] != dest.0 {
+        let num = self.number(dest)?;
+        if self.home(num) != dest {
             return None;
         }
         let made = NameIx(n + self.made);
-        self.homes[num] = made.0;
+        self.homes[usize::from(num.0)] = made.0;
         self.made += 1;
         Some(made)
     }
@@ -194,13 +204,6 @@ impl LvnState {
     pub fn writes_home(&self, dest: NameIx, v: Value) -> bool
         ensures { result ≡ itself (state_of self.now).locs dest (expr_of v) }
     {
-        match v {
-            // One pattern for `id` was tried in get_val_num, and its proof does not close.
-            Value::One(o, a) => match o {
-                One::Id => self.home(a).0 == dest.0,
-                One::Not => false,
-            },
-            _ => false,
-        }
+        matches!(v, Value::One(One::Id, a) if self.home(a) == dest)
     }
 }

@@ -24,11 +24,11 @@ use Rattle.numbering.specs.View.{val_of}
 use Rattle.lvn_values.specs.Table.{packed, int_tag, bool_tag, constant_tag, constant_bits, head_of, num_of, constant_for, unpacked, exactly, expr_at}
 
 -- ---- both tests of an entry
-and_left : (a b : Bool) → (a && b) ≡ true → a ≡ true
+pub and_left : (a b : Bool) → (a && b) ≡ true → a ≡ true
 and_left true b e = refl
 and_left false b e = e
 
-and_right : (a b : Bool) → (a && b) ≡ true → b ≡ true
+pub and_right : (a b : Bool) → (a && b) ≡ true → b ≡ true
 and_right true b e = e
 and_right false b e = clash (cc)
 

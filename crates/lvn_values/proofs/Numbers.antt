@@ -1,10 +1,11 @@
 -- The number of a value: found in the table, but for an id and for what is new each time.
-use mathlib.Core.Path.{◌≡◌, refl}
+use mathlib.Core.Path.{◌≡◌, refl, sym, ap, ◌∙◌}
 use mathlib.Core.List.{[], ◌∷◌}
 use mathlib.Core.Option.{Option, some}
 use types.Run.{OneOf, miss}
 use denote.Enum.Declared.{tag_of}
-use Rattle.arith.specs.Operation.{Expr, constant, two}
+use Rattle.arith.specs.declared.One.TheVariants.{Not}
+use Rattle.arith.specs.Operation.{Expr, constant, one, two}
 use Rattle.numbering.specs.declared.ValNum.{ValNum}
 use Rattle.numbering.specs.declared.Value.{Value}
 use Rattle.numbering.specs.declared.Value.TheVariants.{Unique, Constant, One, Two}
@@ -16,7 +17,7 @@ use Rattle.lvn_values.specs.Table.{val_num_of}
 
 module _ (s : State) (o : Option ValNum) where
   -- what looking up the entry of a value gives
-  abbrev Found : Value → Type 0
+  abbrev pub Found : Value → Type 0
   Found v = (e : Expr ValNum) → expr_of v ≡ some e → o ≡ find s.vals e 0 s.next
 
   pub looked_up : (v : Value) → OneOf (1 ∷ 3 ∷ []) (tag_of values.the_type v) → Found v → o ≡ val_num_of s (expr_of v)
@@ -25,3 +26,7 @@ module _ (s : State) (o : Option ValNum) where
   looked_up (Constant c) h f = f (constant (val_of c)) refl
   looked_up (One p a) h f = absurd (miss (1 ∷ 3 ∷ []) 2 tt h)
   looked_up (Two p a b) h f = f (two p a b) refl
+
+  pub looked_not : (v : Value) (a : ValNum) → v ≡ One Not a → Found v → o ≡ val_num_of s (expr_of v)
+  unfolding get_val_num
+  looked_not v a p f = f (one Not a) (ap expr_of p) ∙ sym (ap (λ (u : Value). val_num_of s (expr_of u)) p)

@@ -2,15 +2,16 @@
 use Prim.Native.Nat.{ℕ, suc, ◌+◌, ◌-◌, ◌<◌, ◌≤◌}
 use mathlib.Core.Path.{◌≡◌, refl, sym, ap, ◌∙◌, fun_ext}
 use mathlib.Core.Logic.{◌≢◌}
-use mathlib.Core.Bool.{Bool, true, false, cond}
+use mathlib.Core.Bool.{Bool, true, false, cond, ◌&&◌}
 use mathlib.Core.List.{List}
 use mathlib.Core.Option.{Option, none, some}
 use native.Mathlib.Numerals.{add-one}
 use native.Mathlib.Omega.{arith}
-use lib.Dec.{ltb}
+use lib.Dec.{eqb, ltb}
 use lib.ListN.{length, get_or, set}
 use lib.Seq.{get_or-set_same, get_or-set_other}
-use borrow.Author.Tests.{lt-ltb, le-ltb, ltb-true, ltb-false}
+use borrow.Author.Tests.{eqb-true, eq-eqb, lt-ltb, le-ltb, ltb-true, ltb-false}
+use Rattle.arith.proofs.Clash.{clash}
 use Rattle.arith.specs.Map.{upd}
 use Rattle.arith.proofs.Map.{upd_same, upd_other}
 use Rattle.arith.specs.Operation.{Expr}
@@ -18,7 +19,7 @@ use Rattle.numbering.specs.declared.ValNum.{ValNum}
 use Rattle.numbering.specs.State.{vn, ValNum-discrete}
 use Rattle.numbering.specs.Number.{same_expr, find}
 use Rattle.lvn_values.specs.Table.{expr_at, vals_of}
-use Rattle.lvn_values.proofs.Entries.{same_entry, other_entry}
+use Rattle.lvn_values.proofs.Entries.{and_left, and_right, same_entry, other_entry}
 
 module _ (hs ns : List ℕ) (count : ℕ) (v : ValNum) where
   pub vals_in : v.0 < count → vals_of hs ns count v ≡ expr_at (get_or hs v.0 0) (get_or ns v.0 0)
@@ -44,19 +45,21 @@ module _ (hs ns : List ℕ) (h k n i : ℕ) (e : Expr ValNum) (here : expr_at h 
     unfolding find
     step = rw (left_step n i l, vals_in hs ns n (vn i) l, ← add-one i)
 
-    pub hit : get_or hs i 0 ≡ h → get_or ns i 0 ≡ k → some (vn i) ≡ find (vals_of hs ns n) e i (n - i)
-    hit p q = sym (step ∙ rw (same_entry h k e here (get_or hs i 0) (get_or ns i 0) p q))
+    -- whether the entry at i is the one that is sought
+    abbrev same : Bool
+    same = eqb (get_or hs i 0) h && eqb (get_or ns i 0) k
 
-    miss :
-        ((get_or hs i 0 ≡ h) × (get_or ns i 0 ≡ k) → ⊥) →
-        find (vals_of hs ns n) e (i + 1) (n - (i + 1)) ≡ find (vals_of hs ns n) e i (n - i)
-    miss f = sym (step ∙ rw (other_entry h k e here (get_or hs i 0) (get_or ns i 0) f))
+    pub here_it_is : same ≡ true → some (vn i) ≡ find (vals_of hs ns n) e i (n - i)
+    here_it_is t =
+        let p = eqb-true (get_or hs i 0) h (and_left (eqb (get_or hs i 0) h) (eqb (get_or ns i 0) k) t) in
+        let q = eqb-true (get_or ns i 0) k (and_right (eqb (get_or hs i 0) h) (eqb (get_or ns i 0) k) t) in
+        sym (step ∙ rw (same_entry h k e here (get_or hs i 0) (get_or ns i 0) p q))
 
-    pub other_head : (get_or hs i 0 ≡ h → ⊥) → find (vals_of hs ns n) e (i + 1) (n - (i + 1)) ≡ find (vals_of hs ns n) e i (n - i)
-    other_head f = miss (λ p. f p.0)
+    differs : same ≡ false → (get_or hs i 0 ≡ h) × (get_or ns i 0 ≡ k) → ⊥
+    differs t p = let z = rw (eq-eqb (get_or hs i 0) h p.0, eq-eqb (get_or ns i 0) k p.1) at t in clash (cc)
 
-    pub other_num : (get_or ns i 0 ≡ k → ⊥) → find (vals_of hs ns n) e (i + 1) (n - (i + 1)) ≡ find (vals_of hs ns n) e i (n - i)
-    other_num f = miss (λ p. f p.1)
+    pub not_here : same ≡ false → find (vals_of hs ns n) e (i + 1) (n - (i + 1)) ≡ find (vals_of hs ns n) e i (n - i)
+    not_here t = sym (step ∙ rw (other_entry h k e here (get_or hs i 0) (get_or ns i 0) (differs t)))
 
 -- the next number's entry: what stands at the numbers before it stays
 module _ (hs ns ks ms : List ℕ) (c : ℕ) where

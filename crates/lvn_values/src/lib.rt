@@ -1,7 +1,7 @@
 // The table of numbered values: of each number a head, which holds the operator and the operands, and a constant.
 #![tactic(auto)]
 
-ghost use Rattle.std.specs.Prelude.{◌≡◌, ◌+◌, ◌<◌, ◌≤◌, length};
+ghost use Rattle.std.specs.Prelude.{◌≡◌, ◌+◌, ◌<◌, ◌≤◌, length, get_or};
 ghost use Rattle.std.proofs.Math.Option.{some};
 ghost use Rattle.arith.specs.Map.{upd};
 ghost use Rattle.arith.specs.Operation.{Expr, constant};
@@ -26,10 +26,10 @@ const INT_AS_FLOAT: u64 = 16 * 0x1_0000_0000;
 const BOOL: u64 = 17 * 0x1_0000_0000;
 
 // What stands in the table for a value.
-#[derive(Clone, Copy)]
+#[derive(Clone, Copy, PartialEq, Eq, Debug)]
 pub struct Entry {
-    head: u64,
-    num: u64,
+    pub head: u64,
+    pub num: u64,
 }
 
 impl Entry {
@@ -38,7 +38,7 @@ impl Entry {
         ensures { (result ≡ record { head = packed code a.0 b.0; num = 0 }) × ((a.0 < 65536) × (b.0 < 65536)) }
     {
         Entry {
-            head: (code as u64) * 0x1_0000_0000 + (a.0 as u64) * 0x1_0000 + (b.0 as u64),
+            head: u64::from(code) * 0x1_0000_0000 + u64::from(a.0) * 0x1_0000 + u64::from(b.0),
             num: 0,
         }
     }
@@ -55,12 +55,13 @@ impl Entry {
             },
             Constant::Bool(b) => Entry {
                 head: BOOL,
-                num: b as u64,
+                num: u64::from(b),
             },
         }
     }
 
-    // Of a value; one that is new each time has nothing.
+    // Of a value. One that is new each time has zeros, which no value that is numbered has: the table has to hold something for its number,
+    // and an Option would be turned into zeros there again.
     pub fn of(v: Value) -> Self
         ensures { expr_at result.head result.num ≡ expr_of v }
     {
@@ -86,35 +87,37 @@ impl Entry {
     }
 }
 
-// The entries of the first count numbers. Two arrays, since several heads are compared at once.
+// The entries of the first count numbers, of which there can be N. Two arrays, since holds goes over the heads alone, or over the constants
+// alone. One array of entries was measured and is as quick, but holds would need a closure that says which part of an entry to compare.
 #[derive(Drop)]
-pub struct Values {
-    heads: [u64; NUMBERS],
-    nums: [u64; NUMBERS],
+pub struct Values<const N: usize> {
+    heads: [u64; N],
+    nums: [u64; N],
     count: u16,
-    ghost few: { count ≤ 512 },
+    ghost few: { count ≤ N },
 }
 
-// Whether x is one of the first count numbers. The loop has no other end, so that several are compared at once.
+// Whether x is one of the first count numbers. The loop has no other end, so that several are compared at once: `contains`, which ends at the
+// first, took a tenth longer over numbers that do not have it.
 pub fn holds(l: &[u64], count: u16, x: u64) -> bool
     requires { count ≤ length l.now }
     ensures { result ≡ holds l.now x 0 count }
 {
     let mut hit = false;
-    for i in 0..count as usize {
-        hit |= l[i] == x;
+    for y in &l[..usize::from(count)] {
+        hit |= *y == x;
     }
     hit
 }
 
-impl Values {
+impl<const N: usize> Values<N> {
     // With no number.
     pub fn new() -> Self
         ensures { result.count ≡ 0 }
     {
         Values {
-            heads: [0; NUMBERS],
-            nums: [0; NUMBERS],
+            heads: [0; N],
+            nums: [0; N],
             count: 0,
         }
     }
@@ -128,23 +131,35 @@ impl Values {
 
     // How many numbers have an entry: the next number.
     pub fn count(&self) -> u16
-        ensures { (result ≡ self.now.count) × (result ≤ 512) }
+        ensures { (result ≡ self.now.count) × (result ≤ N) }
     {
         self.count
     }
 
     // The next number gets the entry of v.
     pub fn push(&mut self, v: Value)
-        requires { self.old.count < 512 }
+        requires { (self.old.count < N) × (self.old.count < 65535) }
         ensures { (self.new.count ≡ self.old.count + 1) ×
             (vals_of self.new.heads self.new.nums self.new.count ≡
             upd ValNum-discrete (vals_of self.old.heads self.old.nums self.old.count) (vn self.old.count) (expr_of v)) }
     {
         let e = Entry::of(v);
-        let k = self.count as usize;
+        let k = usize::from(self.count);
         self.heads[k] = e.head;
         self.nums[k] = e.num;
         self.count += 1;
+    }
+
+    // The entry of a number that has one.
+    fn entry(&self, i: u16) -> Entry
+        requires { i < self.now.count }
+        ensures { result ≡ record { head = get_or self.now.heads i 0; num = get_or self.now.nums i 0 } }
+    {
+        let k = usize::from(i);
+        Entry {
+            head: self.heads[k],
+            num: self.nums[k],
+        }
     }
 
     // What is known of a number.
@@ -154,21 +169,16 @@ impl Values {
         if v.0 >= self.count {
             return None;
         }
-        let i = v.0 as usize;
-        let e = Entry {
-            head: self.heads[i],
-            num: self.nums[i],
-        };
-        e.known()
+        self.entry(v.0).known()
     }
 
-    // The first of the numbers that has this entry.
+    // The first of the numbers that has this entry. By find over the range it was tried: the closure wants a contract that is longer than this loop.
     pub fn find(&self, e: Entry) -> Option<ValNum>
         ensures { (x : Expr ValNum) → expr_at e.head e.num ≡ some x →
             numbered_of result ≡ find (vals_of self.now.heads self.now.nums self.now.count) x 0 self.now.count }
     {
         for i in 0..self.count {
-            if self.heads[i as usize] == e.head && self.nums[i as usize] == e.num {
+            if self.entry(i) == e {
                 return Some(ValNum(i));
             }
         }
@@ -197,11 +207,7 @@ impl Values {
     {
         match v {
             Value::Unique => None,
-            // One pattern for `id` was tried, and its proof does not close.
-            Value::One(o, a) => match o {
-                One::Id => Some(a),
-                One::Not => self.look_up(Entry::of(v)),
-            },
+            Value::One(One::Id, a) => Some(a),
             _ => self.look_up(Entry::of(v)),
         }
     }

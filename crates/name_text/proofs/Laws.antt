@@ -25,7 +25,7 @@ use Rattle.numbering.specs.declared.NameError.{NameError}
 use Rattle.numbering.specs.declared.NameError.TheVariants.{Refused, Mismatch}
 use Rattle.numbering.specs.NameText.{Part, NameText, name_part, parts_of, nth_part, choose, from_parts, refused, headed, with_input, name_text}
 use Rattle.name_text.specs.declared.Place.{Place}
-use Rattle.name_text.specs.Found.{found, IsWithin, part_at, part_from}
+use Rattle.name_text.specs.Found.{found, IsWithin, starts_at, part_at, part_from}
 
 -- ---- one name
 -- a text that is not looked at is a field that is not looked at
@@ -201,11 +201,16 @@ module _ (a r : List ℕ) (i n m p q : ℕ) (t : NameText) (en : n ≡ num_at a 
         )
 
 -- the names of one record run past its end
-pub not_both : (i : ℕ) (x y : Res (List Part)) (f : Fault) → Err f ≡ result_and (verdict x) (verdict y) → refused Mismatch ≡ from_parts i x y
+not_both_as : (i : ℕ) (x y : Res (List Part)) (f : Fault) → Err f ≡ result_and (verdict x) (verdict y) → refused Mismatch ≡ from_parts i x y
 unfolding from_parts
-not_both i (fault k o) y f e = refl
-not_both i (got ps p) (fault k o) f e = refl
-not_both i (got ps p) (got qs q) f e = clash (cc)
+not_both_as i (fault k o) y f e = refl
+not_both_as i (got ps p) (fault k o) f e = refl
+not_both_as i (got ps p) (got qs q) f e = clash (cc)
+
+pub not_both :
+    (i : ℕ) (x y : Res (List Part)) (a r : List ℕ) (z : Result Place NameError) (f : Fault) → z ≡ Err Mismatch →
+    Err f ≡ result_and (verdict x) (verdict y) → (found z ≡ from_parts i x y) × IsWithin z a r
+not_both i x y a r z f h e = (ap found h ∙ not_both_as i x y f e, subst (λ (z : Result Place NameError). IsWithin z a r) (sym h) (omega arith))
 
 -- ---- the input's check
 module _ (a r : List ℕ) (i : ℕ) where
@@ -231,3 +236,9 @@ module _ (a r : List ℕ) (i : ℕ) where
     pub when_not : headed v r ≡ false → refused Mismatch ≡ name_text a r i
     when_not h =
         sym (ap (λ (b : Bool). cond b (from_parts i (parts_of false a) (parts_of true r)) (refused Mismatch)) h) ∙ input_accepted v e ev
+
+-- ---- where the part that is handed back stands
+module _ (t u : NameText) (same : t ≡ u) where
+  pub text_starts : (i r at : ℕ × ℕ) → at ≡ cond t.part.rewriting r i → (at.0, t.part.from + at.1) ≡ starts_at i r u.part
+  text_starts i r at e =
+      ap (λ (at : ℕ × ℕ). (at.0, t.part.from + at.1)) e ∙ ap (λ (t : NameText). starts_at i r t.part) same

@@ -1,4 +1,5 @@
-// Name text: the part of the input or of its rewriting that is the text of a name.
+// Name text: the part of the input or of its rewriting that is the text of a name. Functions take input, rewriting and index as the definition
+// does: a struct of the three would be made by the entry and taken apart by each.
 #![tactic(auto)]
 
 ghost use Rattle.std.specs.Prelude.{◌≡◌, Bool, true, false, ℕ, ◌+◌, ◌<◌, ◌≤◌};
@@ -11,7 +12,7 @@ use read_fields::Next;
 use record::Refusal;
 
 // A part of the input or of the rewriting, told by a bool as in the definition's part.
-#[derive(Clone, Copy)]
+#[derive(Clone, Copy, PartialEq, Eq, Debug)]
 pub struct Place {
     pub rewriting: bool,
     pub from: usize,
@@ -25,6 +26,7 @@ pub fn name_within(s: &[u8], p: usize) -> Next
 {
     let (_, q) = read_fields::field_at::<1>(s, p)?;
     let (n, t) = read_fields::field_at::<1>(s, q)?;
+    // as: a number that is known to fit, or u64 and usize, which have no From; try_from would hand out an error that cannot be.
     read_fields::skip_at(s, t, n as usize)
 }
 
@@ -45,6 +47,7 @@ pub fn text_in(s: &[u8], rewriting: bool, index: usize) -> Place
     requires { index < 65536 }
     ensures { found (Ok result) ≡ part_from rewriting s.now index }
 {
+    // The place alone is asked, so that no table is filled.
     let p = read_layout::fill_names(s, &mut [], &mut [], index, 8);
     Place {
         rewriting,
@@ -57,9 +60,7 @@ pub fn text_in(s: &[u8], rewriting: bool, index: usize) -> Place
 pub fn headed(version: u64, s: &[u8]) -> bool
     ensures { result ≡ headed version s.now }
 {
-    s.len() >= 8
-        && read_fields::be::<4>(s, 0) as usize == s.len() - 4
-        && read_fields::byte_or(s, 4) == version
+    read_fields::opens(s, 8, version)
 }
 
 // The name's text, where the names of both records lie within them.
@@ -88,10 +89,10 @@ pub fn both(input: &[u8], rewriting: &[u8], index: usize) -> Result<Place, NameE
     ensures { (found result ≡ from_parts index (parts_of false input.now) (parts_of true rewriting.now))
         × IsWithin result input.now rewriting.now }
 {
-    match names_within(input).and(names_within(rewriting)) {
-        Ok(_) => chosen(input, rewriting, index),
-        Err(_) => Err(NameError::Mismatch),
-    }
+    names_within(input)
+        .and(names_within(rewriting))
+        .map_err(|_| NameError::Mismatch)?;
+    chosen(input, rewriting, index)
 }
 
 // The part, or why there is none.

@@ -1,10 +1,13 @@
 // The types that the definitions of local value numbering and the code share.
 #![tactic(auto)]
 
-ghost use Rattle.std.specs.Prelude.{◌≡◌};
+ghost use Rattle.std.specs.Prelude.{◌≡◌, [], ◌∷◌, Err};
 ghost use Rattle.numbering.specs.declared.RewriteError.TheVariants.{Refused as rewrite_refused};
 ghost use Rattle.numbering.specs.declared.FiguresError.TheVariants.{Refused as figures_refused};
 ghost use Rattle.numbering.specs.declared.NameError.TheVariants.{Refused as name_refused};
+ghost use Rattle.numbering.specs.Rewrite.{rewrite_answer};
+ghost use Rattle.numbering.specs.Figures.{figures_answer};
+ghost use Rattle.numbering.specs.NameText.{name_answer};
 
 use arith::{One, Two};
 use record::Fault;
@@ -14,7 +17,7 @@ use record::Fault;
 pub struct ValNum(pub u16);
 
 // A constant that is numbered: an int, or an int literal in a float, which is the value "that literal", by its word; or a bool.
-#[derive(Clone, Copy)]
+#[derive(Clone, Copy, PartialEq, Eq, Debug)]
 pub enum Constant {
     Int(u64),
     IntAsFloat(u64),
@@ -23,7 +26,7 @@ pub enum Constant {
 
 // A value expression which is given a value number, by form. Unique, of which nothing is known, stands first: it is what an array holds at
 // the start.
-#[derive(Clone, Copy)]
+#[derive(Clone, Copy, PartialEq, Eq, Debug)]
 pub enum Value {
     Unique,
     Constant(Constant),
@@ -45,6 +48,30 @@ pub enum RewriteError {
     Room(usize),
 }
 
+impl RewriteError {
+    // Its number.
+    #[tactic(auto, unfolding(crate::specs::Rewrite::rewrite_answer))]
+    pub fn number(self) -> u8
+        ensures { result ≡ (rewrite_answer (Err self)).number }
+    {
+        match self {
+            RewriteError::Refused(f) => u8::from(f.refusal),
+            RewriteError::Room(_) => 9,
+        }
+    }
+
+    // The value that goes with it: the offset of the fault, or the bytes needed.
+    #[tactic(auto, unfolding(crate::specs::Rewrite::rewrite_answer))]
+    pub fn value(self) -> usize
+        ensures { (rewrite_answer (Err self)).values ≡ result ∷ [] }
+    {
+        match self {
+            RewriteError::Refused(f) => f.offset,
+            RewriteError::Room(n) => n,
+        }
+    }
+}
+
 impl From<Fault> for RewriteError {
     ghost from_gives = { λ f e. e ≡ rewrite_refused f };
 
@@ -60,6 +87,30 @@ pub enum FiguresError {
     TooFew,
 }
 
+impl FiguresError {
+    // Its number.
+    #[tactic(auto, unfolding(crate::specs::Figures::figures_answer))]
+    pub fn number(self) -> u8
+        ensures { result ≡ (figures_answer (Err self)).number }
+    {
+        match self {
+            FiguresError::Refused(f) => u8::from(f.refusal),
+            FiguresError::TooFew => 12,
+        }
+    }
+
+    // The value that goes with it: the offset of the fault, or 0.
+    #[tactic(auto, unfolding(crate::specs::Figures::figures_answer))]
+    pub fn value(self) -> usize
+        ensures { (figures_answer (Err self)).values ≡ result ∷ [] }
+    {
+        match self {
+            FiguresError::Refused(f) => f.offset,
+            FiguresError::TooFew => 0,
+        }
+    }
+}
+
 impl From<Fault> for FiguresError {
     ghost from_gives = { λ f e. e ≡ figures_refused f };
 
@@ -73,6 +124,30 @@ impl From<Fault> for FiguresError {
 pub enum NameError {
     Refused(Fault),
     Mismatch,
+}
+
+impl NameError {
+    // Its number.
+    #[tactic(auto, unfolding(crate::specs::NameText::name_answer))]
+    pub fn number(self) -> u8
+        ensures { result ≡ (name_answer (Err self)).number }
+    {
+        match self {
+            NameError::Refused(f) => u8::from(f.refusal),
+            NameError::Mismatch => 11,
+        }
+    }
+
+    // The value that goes with it: the offset of the fault, or 0.
+    #[tactic(auto, unfolding(crate::specs::NameText::name_answer))]
+    pub fn value(self) -> usize
+        ensures { (name_answer (Err self)).values ≡ result ∷ [] }
+    {
+        match self {
+            NameError::Refused(f) => f.offset,
+            NameError::Mismatch => 0,
+        }
+    }
 }
 
 impl From<Fault> for NameError {

@@ -3,21 +3,11 @@ use Prim.Native.Nat.{ℕ, zero, suc, ◌+◌, ◌-◌, ◌*◌, ◌^◌, ◌<◌
 use Rattle.std.proofs.Math.Nat.{pow-suc, mul_assoc, pow-le-pow_right}
 use mathlib.Core.Path.{◌≡◌, refl, sym, ap, ◌∙◌}
 use mathlib.Core.List.{List}
-use mathlib.Core.Bool.{Bool, true, false}
 use native.Mathlib.Omega.{arith}
-use native.Mathlib.Nat.{add_assoc}
-use lib.ListN.{length, get_or, get_or-eq_default}
-use lib.Dec.{ltb}
-use borrow.Author.Tests.{ltb-true}
-use Rattle.arith.proofs.Clash.{clash}
-use Rattle.record.specs.declared.Refusal.TheVariants.{Length}
-use Rattle.record.specs.Reader.{Test}
-use Rattle.record.specs.Reader.{Res, got, fault, then, refuse, judge, num_at, field}
+use lib.ListN.{length, get_or}
+use Rattle.record.specs.Reader.{got, num_at, field}
 use Rattle.record.specs.Tests.{any}
-use Rattle.record.proofs.Following.{field_there, tested_no, field_judged}
-use Rattle.record.specs.declared.Fault.{Fault}
-use Rattle.std.specs.Prelude.{Result, Ok, Err}
-use Rattle.read_fields.specs.Answer.{res}
+use Rattle.record.proofs.Following.{field_there}
 
 -- ---- the number of w bytes, and of one more
 num_first : (w : ℕ) (s : List ℕ) (at : ℕ) → num_at s at (suc w) ≡ get_or s at 0 * 256 ^ w + num_at s (at + 1) w

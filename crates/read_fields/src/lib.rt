@@ -5,7 +5,8 @@ ghost use Rattle.std.specs.Prelude.{◌≡◌, cond, ◌+◌, ◌-◌, ◌^◌, 
 ghost use Rattle.record.specs.Reader.{got, then, num_at, field, judge, times};
 ghost use Rattle.record.specs.Tests.{need, any, at_most, below};
 ghost use Rattle.record.specs.Answer.{fault_at, verdict};
-ghost use Rattle.read_fields.specs.Answer.{res};
+ghost use Rattle.read_fields.specs.Answer.{res, Tests};
+ghost use Rattle.read_fields.specs.Opens.{opens};
 ghost use Rattle.read_fields.specs.Places.{places};
 
 use record::{Fault, Refusal};
@@ -20,7 +21,9 @@ pub type Next = Result<usize, Fault>;
 pub type Test = Result<(), Refusal>;
 
 // ---- numbers of bytes that are there, the first byte the greatest
-// The number of N bytes.
+// N ≤ 8 is asked by each function that takes N: a const argument is no field of a struct, so no ghost field can say it once.
+// The number of N bytes. By an index: the closure of a fold would have to say in a contract of its own how great the number is so far, which is
+// what the loop's invariant says.
 pub fn number_of<const N: usize>(s: &[u8], at: usize) -> u64
     requires { (N ≤ 8) × (N ≤ length s.now - at) }
     ensures { (result ≡ num_at s.now at N) × (result < 256 ^ N) }
@@ -40,7 +43,8 @@ pub fn left(s: &[u8], at: usize) -> usize
 }
 
 // ---- the record reader
-// A lent record and the place at which it is read. Every field whose number is looked at is read through it.
+// A lent record and the place at which it is read. Every field whose number is looked at is read through it. The functions below take s and at
+// as the definitions' readers do, and each goes on at the place that the one before it gave: a reader to pass would be made anew for each.
 #[derive(Drop)]
 pub struct Reader<'a> {
     pub src: &'a [u8],
@@ -91,7 +95,7 @@ pub fn skip_at(s: &[u8], at: usize, w: usize) -> Next
 pub fn byte_or(s: &[u8], at: usize) -> u64
     ensures { (result ≡ get_or s.now at 0) × (result < 256) }
 {
-    if at < s.len() { u64::from(s[at]) } else { 0 }
+    s.get(at).map_or(0, |b| u64::from(*b))
 }
 
 // The number of N bytes; bytes past the end count as 0. The last of them has a place. What lies within is read without a test for each byte.
@@ -107,6 +111,15 @@ pub fn be<const N: usize>(s: &[u8], at: usize) -> u64
         x = x * 256 + byte_or(s, at + i);
     }
     x
+}
+
+// ---- the head of a form
+// Whether a form of at least so many bytes opens with its length, which counts what follows it, and with this version.
+pub fn opens(s: &[u8], shortest: usize, version: u64) -> bool
+    ensures { result ≡ opens shortest version s.now }
+{
+    // as: u64 and usize have no From; try_from would hand out an error that cannot be.
+    shortest <= s.len() && be::<4>(s, 0) == left(s, 4) as u64 && byte_or(s, 4) == version
 }
 
 // ---- places
@@ -127,6 +140,7 @@ pub fn need(holds: bool, k: Refusal) -> Test
 }
 
 // At most so much.
+#[tactic(auto, unfolding(record::specs::Tests::at_most))]
 pub fn at_most(most: u64, x: u64) -> Test
     ensures { result ≡ at_most most x }
 {
@@ -134,6 +148,7 @@ pub fn at_most(most: u64, x: u64) -> Test
 }
 
 // The number of one of n names or blocks.
+#[tactic(auto, unfolding(record::specs::Tests::below))]
 pub fn below(n: u64, x: u64) -> Test
     ensures { result ≡ below n x }
 {
@@ -147,24 +162,39 @@ pub fn fault(refusal: Refusal, offset: usize) -> Fault
     Fault { refusal, offset }
 }
 
+// A field that was read at a place, and the test t of its number. Inlined, since the place behind a field would else wait for its test.
+#[inline(always)]
+pub fn tested(n: Num, t: Test, at: usize) -> Num
+    ensures { res result ≡ then (res n) (λ x p. judge t at (got x p)) }
+{
+    let (x, p) = n?;
+    t.map_err(|k| fault(k, at))?;
+    Ok((x, p))
+}
+
 // What the test t of a field at a place says: its number x and the place p behind it, or a refusal at the field.
+#[inline(always)]
 pub fn judged(t: Test, x: u64, p: usize, at: usize) -> Num
     ensures { res result ≡ judge t at (got x p) }
 {
-    match t {
-        Ok(()) => Ok((x, p)),
-        Err(k) => Err(fault(k, at)),
-    }
+    tested(Ok((x, p)), t, at)
 }
 
 // Where a field ends, its number forgotten.
 pub fn verdict(n: Num) -> Next
     ensures { result ≡ verdict (res n) }
 {
-    match n {
-        Ok((_, p)) => Ok(p),
-        Err(f) => Err(f),
-    }
+    n.map(|(_, p)| p)
+}
+
+// A field of N bytes and the test of its number, for each t of which the closure's answers are those.
+#[inline(always)]
+pub fn field_tested<const N: usize, F: FnOnce(u64) -> Test>(s: &[u8], at: usize, test: F) -> Num
+    requires { (N ≤ 8) × F.IsAlwaysCallable test }
+    ensures { (t : _) → Tests (F.post test) t → res result ≡ field N t s.now at }
+{
+    let (x, p) = field_at::<N>(s, at)?;
+    judged(test(x), x, p, at)
 }
 
 // ---- fields that several parts of a record have
@@ -173,16 +203,14 @@ pub fn limited<const N: usize>(s: &[u8], at: usize, most: u64) -> Num
     requires { N ≤ 8 }
     ensures { res result ≡ field N (at_most most) s.now at }
 {
-    let (x, p) = field_at::<N>(s, at)?;
-    judged(at_most(most, x), x, p, at)
+    field_tested::<N, _>(s, at, |x| at_most(most, x))
 }
 
 // A name or block number, one of n.
 pub fn index_at(s: &[u8], at: usize, n: u64) -> Next
     ensures { result ≡ verdict (field 2 (below n) s.now at) }
 {
-    let (x, p) = field_at::<2>(s, at)?;
-    verdict(judged(below(n, x), x, p, at))
+    verdict(field_tested::<2, _>(s, at, |x| below(n, x)))
 }
 
 // A row of such numbers.

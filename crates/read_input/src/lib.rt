@@ -8,7 +8,8 @@ ghost use Rattle.std.specs.Io.KnownBytes.{Consumes, IsAtEnd};
 use std::io;
 use std::io::{ErrorKind, Read};
 
-// One read, made again where a signal interrupts it.
+// One read, made again where a signal interrupts it. A `loop` would need a measure, which signals do not have, or leave to run forever, which
+// the project does not give; so it is counted, to a number that no run comes to.
 fn read_some<R: Read>(reader: &mut R, buf: &mut [u8]) -> io::Result<usize>
     ensures bound { ReadsAtMost result buf.new }
     ensures bytes { IfOk result (λ n. Consumes (R.remaining reader.old) (R.remaining reader.new) (take n buf.new)) }
@@ -24,7 +25,8 @@ fn read_some<R: Read>(reader: &mut R, buf: &mut [u8]) -> io::Result<usize>
 }
 
 // Reads until the buffer is full or the input ends, and returns how many bytes it put at the buffer's start. What the reader is known to hold
-// begins with these bytes, and it holds no other where they are fewer than the buffer has room for.
+// begins with these bytes, and it holds no other where they are fewer than the buffer has room for. The count, as of `read`, and not the bytes
+// themselves: of a buffer that a result is lent from, no clause says what it holds then.
 pub fn read_full<R: Read>(reader: &mut R, buf: &mut [u8]) -> io::Result<usize>
     ensures bound { ReadsAtMost result buf.new }
     ensures bytes { IfOk result (λ n. Consumes (R.remaining reader.old) (R.remaining reader.new) (take n buf.new)) }

@@ -4,7 +4,7 @@ use mathlib.Core.Path.{◌≡◌, refl, sym, ap, ◌∙◌, subst}
 use mathlib.Core.List.{List, [], map}
 use mathlib.Core.Bool.{Bool, true, false, not, cond}
 use native.Mathlib.Omega.{arith}
-use lib.ListN.{length, take}
+use lib.ListN.{length}
 use Rattle.record.specs.declared.Shape.{Shape}
 use Rattle.record.specs.declared.Instruction.{Instruction}
 use Rattle.record.specs.Record.{nm, Lit, no_lit, Instr}
@@ -13,7 +13,7 @@ use Rattle.record.specs.Reader.{num_at}
 use Rattle.record.specs.Tests.{literal_test}
 use Rattle.record.specs.Good.{There, LitOk, InstrOk}
 use Rattle.record.specs.Answer.{literal_of}
-use Rattle.record.specs.View.{code_of, instr_of}
+use Rattle.record.specs.View.{code_of, row_of, instr_of}
 use Rattle.record.specs.Decode.{items, behind, two_on, index_from, number_from, count_from, lit_at, count_at, callee_at, targets_at, operands_end, operands_from, instr_from, instr_end}
 use Rattle.record.proofs.Tests.{le_at_most}
 use Rattle.record.specs.Sizes.{longest_operands}
@@ -40,8 +40,8 @@ module _ (s : List ℕ) (p : ℕ) where
   args_by :
       (b : Bool) (n k : ℕ) (xs : List ℕ) →
       n ≡ cond b k 0 →
-      take n xs ≡ items (number_from s) two_on p n →
-      map nm (take n xs) ≡ cond b (items (index_from s) two_on p k) []
+      xs ≡ items (number_from s) two_on p n →
+      map nm xs ≡ cond b (items (index_from s) two_on p k) []
   unfolding items
   args_by true n k xs e h = ap (map nm) h ∙ items_indexes s p n ∙ ap (items (index_from s) two_on p) e
   args_by false n k xs e h = ap (map nm) h ∙ ap (λ (j : ℕ). map nm (items (number_from s) two_on p j)) e
@@ -101,28 +101,24 @@ module _ {s : List ℕ} {at code : ℕ} {p : Parts} (there : PartsAt s at code p
       i.op ≡ op_of code →
       i.dest ≡ nm (cond sh.dest (num_at s at 2) 0) →
       literal_of i.literal ≡ cond sh.literal (lit_from s p.literal) no_lit →
-      i.count ≡ p.args →
-      take p.args i.args ≡ items (number_from s) two_on (p.count + 1) p.args →
+      row_of i.args ≡ items (number_from s) two_on (p.count + 1) p.args →
       i.callee ≡ cond sh.callee (num_at s p.callee 2) 0 →
-      take p.targets i.blocks ≡ items (number_from s) two_on p.blocks p.targets →
+      row_of i.blocks ≡ items (number_from s) two_on p.blocks p.targets →
       instr_of i ≡ operands_from (shape_of code) s at x code
   unfolding instr_of operands_from index_from
-  operands_again x i f o d l c a k b =
+  operands_again x i f o d l a k b =
       let code_is : code_of i.op ≡ code = ap code_of o ∙ op_code code in
       let dest_is : i.dest ≡ cond sh.dest (index_from s at) (nm 0) = d ∙ nm_cond sh.dest (num_at s at 2) in
       let literal_is : literal_of i.literal ≡ cond sh.literal (lit_from s (lit_at sh s at)) no_lit =
       l ∙ ap (λ (q : ℕ). cond sh.literal (lit_from s q) no_lit) there.literal in
-      let args_are : map nm (take i.count i.args) ≡
+      let args_are : map nm (row_of i.args) ≡
       cond (not sh.literal) (items (index_from s) two_on (count_at sh s at + 1) (num_at s (count_at sh s at) 1)) [] =
-      ap (λ (m : ℕ). map nm (take m i.args)) c ∙ args_by s (p.count + 1) (not sh.literal) p.args (num_at s p.count 1) i.args there.args a ∙
+      args_by s (p.count + 1) (not sh.literal) p.args (num_at s p.count 1) (row_of i.args) there.args a ∙
       ap (λ (q : ℕ). cond (not sh.literal) (items (index_from s) two_on (q + 1) (num_at s q 1)) []) there.count in
       let callee_is : i.callee ≡ cond sh.callee (num_at s (callee_at sh s at) 2) 0 =
       k ∙ ap (λ (q : ℕ). cond sh.callee (num_at s q 2) 0) there.callee in
-      let m_as_written : targets (shape_of (code_of i.op)) i.count ≡ p.targets =
-      (λ j. targets ((ap shape_of code_is ∙ sym there.shape) j) (c j)) ∙ sym there.targets in
-      let blocks_are : take (targets (shape_of (code_of i.op)) i.count) i.blocks ≡
-      items (number_from s) two_on (targets_at sh s at) (targets sh (count_from sh s (count_at sh s at))) =
-      ap (λ (n : ℕ). take n i.blocks) m_as_written ∙ b ∙ (λ j. items (number_from s) two_on (there.blocks j) (many_there j)) in
+      let blocks_are : row_of i.blocks ≡ items (number_from s) two_on (targets_at sh s at) (targets sh (count_from sh s (count_at sh s at))) =
+      b ∙ (λ j. items (number_from s) two_on (there.blocks j) (many_there j)) in
       let whole : instr_of i ≡ operands_from sh s at x code =
       λ j. record {
         id = f j;
@@ -156,7 +152,6 @@ module _ (w : ℕ) (s : List ℕ) (at x code : ℕ) (id_is : x ≡ num_at s at w
         next = o.next ∙ end_parts;
         near = let n : r.next ≤ at + w + 1 + longest_operands = o.near in omega arith;
         id = subst (λ (y : ℕ). y < 256 ^ w) (sym o.id) k;
-        count = o.count;
       }
 
 -- ---- an instruction of an accepted record

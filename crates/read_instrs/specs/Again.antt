@@ -44,7 +44,6 @@ pub record OperandsAgain (sh : Shape) (s : List ℕ) (at x code : ℕ) (r : Read
   pub next : r.next ≡ operands_end sh s at
   pub near : r.next ≤ at + longest_operands
   pub id : r.instr.id ≡ x
-  pub count : r.instr.count ≤ 8
 
 -- the instruction at a place, its operation, the place behind it, and what writing asks of it; w: the bytes of an id
 pub record ReadAgain (w : ℕ) (s : List ℕ) (at : ℕ) (r : Read) : Type 0 where
@@ -53,4 +52,3 @@ pub record ReadAgain (w : ℕ) (s : List ℕ) (at : ℕ) (r : Read) : Type 0 whe
   pub next : r.next ≡ instr_end w s at
   pub near : r.next ≤ at + longest_instr
   pub id : r.instr.id < 256 ^ w
-  pub count : r.instr.count ≤ 8

@@ -1,19 +1,20 @@
 // Instructions of an accepted record read again: nothing is tested, and past the end a byte is 0.
 #![tactic(auto)]
 
-ghost use Rattle.std.specs.Prelude.{◌≡◌, cond, ◌+◌, ◌*◌, ◌^◌, ◌<◌, ◌≤◌, take};
+ghost use Rattle.std.specs.Prelude.{◌≡◌, cond, ◌+◌, ◌*◌, ◌^◌, ◌<◌, ◌≤◌};
 ghost use Rattle.record.specs.Record.{no_lit};
 ghost use Rattle.record.specs.Shape.{shape_of};
 ghost use Rattle.record.specs.Reader.{num_at};
 ghost use Rattle.record.specs.Good.{LitOk};
 ghost use Rattle.record.specs.Answer.{literal_of};
+ghost use Rattle.record.specs.View.{row_of};
 ghost use Rattle.record.specs.Decode.{two_on, number_from, items, count_from, count_at, operands_from, instr_from};
 ghost use Rattle.record.specs.Sizes.{longest_operands, longest_instr};
 ghost use Rattle.read_fields.specs.Places.{places};
 ghost use Rattle.write_bytes.specs.Put.{IdWidth};
 ghost use Rattle.read_instrs.specs.Again.{lit_from, Readable, PartsAt, OperandsAgain, ReadAgain};
 
-use record::{Instruction, Literal, NameIx, Shape};
+use record::{Instruction, Literal, NameIx, Row, Shape};
 
 // An instruction and the place behind it.
 #[derive(Clone, Copy)]
@@ -22,7 +23,7 @@ pub struct Read {
     pub next: usize,
 }
 
-// An id of w bytes.
+// An id of w bytes, a number as the definitions take it (write_bytes::put_word).
 pub fn read_id(s: &[u8], at: usize, w: usize) -> u64
     requires { (at + 7 < places) × IdWidth w }
     ensures { (result ≡ num_at s.now at w) × (result < 256 ^ w) }
@@ -39,6 +40,7 @@ fn two_if(there: bool, s: &[u8], at: usize) -> u16
     ensures { result ≡ cond there (num_at s.now at 2) 0 }
 {
     if there {
+        // as: a number that is known to fit, or u64 and usize, which have no From; try_from would hand out an error that cannot be.
         return read_fields::be::<2>(s, at) as u16;
     }
     0
@@ -55,16 +57,20 @@ fn read_literal(there: bool, s: &[u8], at: usize) -> Literal
     Literal::Int(0)
 }
 
-// A row of n numbers of two bytes, arguments or block numbers, of which there are at most eight.
-fn read_row(s: &[u8], at: usize, n: u64) -> [u16; 8]
+// A row of n numbers of two bytes, arguments or block numbers, of which there are at most eight. By their places and no chunks, since bytes past
+// the end count as 0.
+fn read_row(s: &[u8], at: usize, n: u64) -> Row
     requires { (at + 2 * n < places) × (n ≤ 8) }
-    ensures { take n result ≡ items (number_from s.now) two_on at n }
+    ensures { row_of result ≡ items (number_from s.now) two_on at n }
 {
-    let mut row = [0u16; 8];
-    for (i, x) in row[..n as usize].iter_mut().enumerate() {
+    let mut items = [0u16; 8];
+    for (i, x) in items[..n as usize].iter_mut().enumerate() {
         *x = read_fields::be::<2>(s, at + 2 * i) as u16;
     }
-    row
+    Row {
+        items,
+        count: n as u8,
+    }
 }
 
 // Where the parts behind a code stand, and how many arguments and block numbers there are.
@@ -79,12 +85,13 @@ struct Parts {
     targets: u64,
 }
 
-// The parts behind a code.
+// The parts behind a code. read_layout::operands_end goes the same way for the end alone, and check_blocks::check_operands tests each part as it
+// goes: both would get seven numbers here for the one or two that they keep.
 fn parts_at(s: &[u8], at: usize, code: u8) -> Parts
     requires { (at + longest_operands < places) × (count_from (shape_of code) s.now (count_at (shape_of code) s.now at) ≤ 8) }
     ensures { PartsAt s.now at code result }
 {
-    let shape = read_shapes::shape_of(code as u64);
+    let shape = read_shapes::shape_of(u64::from(code));
     let literal = read_fields::past_if(shape.dest, at, 2);
     let count = read_fields::past_if(shape.literal, literal, 9);
     let args = read_shapes::count_from(shape, s, count);
@@ -114,7 +121,6 @@ fn read_operands(s: &[u8], at: usize, id: u64, code: u8) -> Read
             op: codes::op_of(code),
             dest: NameIx(two_if(p.shape.dest, s, at)),
             literal: read_literal(p.shape.literal, s, p.literal),
-            count: p.args as u8,
             args: read_row(s, p.count + 1, p.args),
             callee: two_if(p.shape.callee, s, p.callee),
             blocks: read_row(s, p.blocks, p.targets),

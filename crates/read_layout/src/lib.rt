@@ -14,7 +14,7 @@ ghost use Rattle.read_layout.specs.Layout.{types_from, places_from, blocks_from,
 use record::Shape;
 
 // What the head of a record says: the bytes of an id, how many arguments, names and blocks there are, and where the names end.
-#[derive(Clone, Copy)]
+#[derive(Clone, Copy, PartialEq, Eq, Debug)]
 pub struct Layout {
     pub width: usize,
     pub args: u16,
@@ -39,6 +39,8 @@ pub fn id_width(s: &[u8]) -> usize
 }
 
 // ---- the end of an instruction
+// s, w and at stand by themselves here, and w ≤ widest_id with them: who calls has them in a struct of its own (check_types' Typed, lvn_blocks'
+// Source), and would build another for each call.
 // The place behind operands of this shape.
 fn operands_end(sh: Shape, s: &[u8], at: usize) -> usize
     requires { at + operands_reach < places }
@@ -47,6 +49,7 @@ fn operands_end(sh: Shape, s: &[u8], at: usize) -> usize
     let literal = read_fields::past_if(sh.dest, at, 2);
     let count = read_fields::past_if(sh.literal, literal, 9);
     let n = read_shapes::count_from(sh, s, count);
+    // as: a number that is known to fit, or u64 and usize, which have no From; try_from would hand out an error that cannot be.
     let callee = read_fields::past_if(!sh.literal, count, 1 + 2 * (n as usize));
     let blocks = read_fields::past_if(sh.callee, callee, 2);
     blocks + 2 * (read_shapes::targets(sh, n) as usize)
@@ -83,8 +86,8 @@ pub fn block_end(s: &[u8], w: usize, at: usize) -> usize
 }
 
 // ---- tables
-// Entry i of a table, which stays as it is where it has no such entry.
-fn store<T: Copy>(table: &mut [T], i: usize, v: T)
+// Entry i of a table, which stays as it is where it has no such entry. get_mut was tried: its promise says nothing of what the slice ends as.
+pub fn store<T: Copy>(table: &mut [T], i: usize, v: T)
     ensures { table.new ≡ set table.old i v }
 {
     if i < table.len() {
@@ -116,7 +119,8 @@ pub fn name_end(s: &[u8], at: usize) -> usize
 }
 
 // The types and the places of the n names from a place on, put into two tables from their start; the place behind the names. A table
-// that is too short keeps what it has.
+// that is too short keeps what it has. Two tables, since who numbers reads the types alone and who copies names the places alone, each as the
+// list that the definitions speak of; and who wants one of them lends an empty table for the other.
 pub fn fill_names(s: &[u8], types: &mut [u8], places: &mut [u32], n: usize, at: usize) -> usize
     requires { at + name_reach * n < places_end }
     ensures { (result ≡ behind (name_end s.now) at n) × (result ≤ at + name_reach * n)

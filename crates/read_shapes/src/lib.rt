@@ -14,7 +14,8 @@ use record::{Refusal, Shape};
 
 // ---- the kinds of shape
 // That of an unknown code, of which nothing follows: what each other shape differs from. It is a shape and no None, since the definitions
-// take the shape of any code, and behind check an Option would be opened everywhere.
+// take the shape of any code, and behind check an Option would be opened everywhere. `each` is false beside a number of blocks for the same
+// reason: the definitions' shape has both.
 fn unknown() -> Shape
     ensures { result ≡ unknown }
 {
@@ -110,34 +111,78 @@ fn constant() -> Shape
     }
 }
 
-// ---- the shape of a code
-// const; add to ptradd, of which not and id have one argument; what is new each time; the terminators; the effects; all others are unknown.
-// Inlined, so that the parts of a shape that the caller does not ask for are not made.
-#[inline(always)]
+// ---- the shape of a code, by the parts of the table: a match of all its rows at once becomes a jump at each instruction, by which check is
+// a fifth slower
+// add to ptradd: not and id have one argument, the others two.
+#[tactic(auto, unfolding(record::specs::Shape::shape_of))]
+fn pure_shape(code: u64) -> Shape
+    requires { (1 ≤ code) × (code ≤ 14) }
+    ensures { result ≡ shape_of code }
+{
+    match code {
+        0..=9 => value(2),
+        10 => value(1),
+        11..=12 => value(2),
+        13 => value(1),
+        _ => value(2),
+    }
+}
+
+// What is new each time: call; fadd to cge; char2int to load; phi.
+#[tactic(auto, unfolding(record::specs::Shape::shape_of))]
+fn new_shape(code: u64) -> Shape
+    requires { (20 ≤ code) × (code ≤ 39) }
+    ensures { result ≡ shape_of code }
+{
+    match code {
+        0..=20 => call(true),
+        21..=34 => value(2),
+        35..=38 => value(1),
+        _ => phi(),
+    }
+}
+
+// jmp, br and ret.
+#[tactic(auto, unfolding(record::specs::Shape::shape_of))]
+fn end_shape(code: u64) -> Shape
+    requires { (64 ≤ code) × (code ≤ 66) }
+    ensures { result ≡ shape_of code }
+{
+    match code {
+        64 => terminator(0, 0, 1),
+        65 => terminator(1, 1, 2),
+        _ => terminator(0, 1, 0),
+    }
+}
+
+// The terminators; then call, print, nop, store and free.
+#[tactic(auto, unfolding(record::specs::Shape::shape_of))]
+fn effect_shape(code: u64) -> Shape
+    requires { (64 ≤ code) × (code ≤ 71) }
+    ensures { result ≡ shape_of code }
+{
+    match code {
+        0..=66 => end_shape(code),
+        67 => call(false),
+        68 => print(),
+        69 => effect(0),
+        70 => effect(2),
+        _ => effect(1),
+    }
+}
+
+// const; add to ptradd; what is new each time; the terminators and the effects; all others are unknown.
+#[tactic(auto, unfolding(record::specs::Shape::shape_of))]
 pub fn shape_of(code: u64) -> Shape
     ensures { result ≡ shape_of code }
 {
     match code {
         0 => constant(),
-        1..=9 => value(2),
-        10 => value(1),
-        11..=12 => value(2),
-        13 => value(1),
-        14 => value(2),
+        1..=14 => pure_shape(code),
         15..=19 => unknown(),
-        20 => call(true),
-        21..=34 => value(2),
-        35..=38 => value(1),
-        39 => phi(),
+        20..=39 => new_shape(code),
         40..=63 => unknown(),
-        64 => terminator(0, 0, 1),
-        65 => terminator(1, 1, 2),
-        66 => terminator(0, 1, 0),
-        67 => call(false),
-        68 => print(),
-        69 => effect(0),
-        70 => effect(2),
-        71 => effect(1),
+        64..=71 => effect_shape(code),
         _ => unknown(),
     }
 }
@@ -163,22 +208,24 @@ pub fn targets(sh: Shape, n: u64) -> u64
 
 // ---- tests
 // An unknown code; then jmp, br or ret before the last place.
+#[tactic(auto, unfolding(record::specs::Tests::code_test))]
 pub fn code_test(last: bool, code: u64) -> Test
     ensures { result ≡ code_test last code }
 {
     let sh = shape_of(code);
     if sh.known {
-        return read_fields::need(last | !sh.last, Refusal::Place);
+        return read_fields::need(last || !sh.last, Refusal::Place);
     }
     Err(Refusal::Code)
 }
 
 // As many arguments as the shape has.
+#[tactic(auto, unfolding(record::specs::Tests::count_test))]
 pub fn count_test(sh: Shape, n: u64) -> Test
     ensures { result ≡ count_test sh n }
 {
     read_fields::need(
-        (u64::from(sh.few) <= n) & (n <= u64::from(sh.most)),
+        u64::from(sh.few) <= n && n <= u64::from(sh.most),
         Refusal::Limit,
     )
 }
@@ -187,10 +234,11 @@ pub fn count_test(sh: Shape, n: u64) -> Test
 pub fn scalar(x: u64) -> bool
     ensures { result ≡ scalar x }
 {
-    (x < 55296) | ((57344 <= x) & (x <= 1114111))
+    x < 55296 || (57344..=1114111).contains(&x)
 }
 
 // A bool is 0 or 1, a char a scalar value; ints and floats are any bits.
+#[tactic(auto, unfolding(record::specs::Tests::literal_test))]
 pub fn literal_test(kind: u64, x: u64) -> Test
     ensures { result ≡ literal_test kind x }
 {
@@ -207,22 +255,19 @@ pub fn literal_test(kind: u64, x: u64) -> Test
 pub fn code_at(s: &[u8], at: usize, last: bool) -> Num
     ensures { res result ≡ field 1 (code_test last) s.now at }
 {
-    let (x, p) = read_fields::field_at::<1>(s, at)?;
-    read_fields::judged(code_test(last, x), x, p, at)
+    read_fields::field_tested::<1, _>(s, at, |x| code_test(last, x))
 }
 
 // An argument count.
 pub fn count_at(s: &[u8], at: usize, sh: Shape) -> Num
     ensures { res result ≡ field 1 (count_test sh) s.now at }
 {
-    let (x, p) = read_fields::field_at::<1>(s, at)?;
-    read_fields::judged(count_test(sh, x), x, p, at)
+    read_fields::field_tested::<1, _>(s, at, |x| count_test(sh, x))
 }
 
 // The bits of a literal of this kind.
 pub fn bits_at(s: &[u8], at: usize, kind: u64) -> Num
     ensures { res result ≡ field 8 (literal_test kind) s.now at }
 {
-    let (x, p) = read_fields::field_at::<8>(s, at)?;
-    read_fields::judged(literal_test(kind, x), x, p, at)
+    read_fields::field_tested::<8, _>(s, at, |x| literal_test(kind, x))
 }

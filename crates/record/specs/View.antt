@@ -1,11 +1,11 @@
 -- The instructions of the code as those of a record: what its contracts say of them.
-use Rattle.std.specs.Prelude.{ℕ, map, take}
+use Rattle.std.specs.Prelude.{ℕ, List, map, take}
 use Rattle.arith.specs.Code.{code1, code2}
 use Rattle.record.specs.declared.Op.{Op}
 use Rattle.record.specs.declared.Op.TheVariants.{Const, One, Two, New, Effect, Nop, Jmp, Br, Ret}
+use Rattle.record.specs.declared.Row.{Row}
 use Rattle.record.specs.declared.Instruction.{Instruction}
 use Rattle.record.specs.Record.{nm, Instr}
-use Rattle.record.specs.Shape.{targets, shape_of}
 use Rattle.record.specs.Answer.{literal_of}
 
 unfoldable pub code_of : Op → ℕ
@@ -19,6 +19,9 @@ code_of Jmp = 64
 code_of Br = 65
 code_of Ret = 66
 
+abbrev pub row_of : Row → List ℕ
+row_of r = take r.count r.items
+
 unfoldable pub instr_of : Instruction → Instr
 instr_of i =
     record {
@@ -26,7 +29,7 @@ instr_of i =
       code = code_of i.op;
       dest = i.dest;
       lit = literal_of i.literal;
-      args = map nm (take i.count i.args);
+      args = map nm (row_of i.args);
       callee = i.callee;
-      blocks = take (targets (shape_of (code_of i.op)) i.count) i.blocks;
+      blocks = row_of i.blocks;
     }

@@ -1,17 +1,29 @@
 // The types that the definitions of a function record and the code share.
 #![tactic(auto)]
 
+ghost use Rattle.std.specs.Prelude.{◌≡◌, ◌≤◌, length, take};
+ghost use Rattle.record.specs.Answer.{number};
+
 use arith::{One, Two};
 
-// The type byte of float.
+// The type bytes without a pointer, and the least of a pointer.
+pub const INT: u8 = 0x00;
+
+pub const BOOL: u8 = 0x01;
+
 pub const FLOAT: u8 = 0x02;
+
+pub const CHAR: u8 = 0x03;
+
+pub const POINTER: u8 = 0x10;
 
 // The index of a name. Value numbers are another kind, ValNum of the crate numbering.
 #[derive(Clone, Copy, PartialEq, Eq, Debug)]
 pub struct NameIx(pub u16);
 
 // A literal. The logic has one NaN and no contract can say which bits a NaN has, so the bits of a NaN stand in a variant of their own.
-#[derive(Clone, Copy)]
+// No PartialEq: literals are equal by their bits, and `==` of floats takes 0 and -0 for the same.
+#[derive(Clone, Copy, Debug)]
 pub enum Literal {
     Int(i64),
     Bool(bool),
@@ -21,7 +33,7 @@ pub enum Literal {
 }
 
 // What an instruction does, by form: const; codes 1 to 14; codes 20 to 39, which give a new value each time; 67, 68, 70 and 71; nop, jmp, br and ret.
-#[derive(Clone, Copy)]
+#[derive(Clone, Copy, PartialEq, Eq, Debug)]
 pub enum Op {
     Const,
     One(One),
@@ -34,23 +46,54 @@ pub enum Op {
     Ret,
 }
 
-// An instruction. Parts that its operation does not have are 0; of the arguments the first `count` count, of the block numbers as many as
-// its operation has, which for phi is one for each argument.
+// Up to eight numbers: the arguments of an instruction, or its block numbers. ArrayVec would hold them too, but is not Copy.
+// No PartialEq: what stands past the count is no part of the row.
+#[derive(Clone, Copy)]
+pub struct Row {
+    pub items: [u16; 8],
+    pub count: u8,
+    ghost few: { count ≤ 8 },
+}
+
+impl Row {
+    // These numbers.
+    pub fn of<const N: usize>(xs: [u16; N]) -> Row
+        requires { N ≤ 8 }
+        ensures { take result.count result.items ≡ xs.entry }
+    {
+        let mut items = [0; 8];
+        items[..N].copy_from_slice(&xs);
+        Row {
+            items,
+            count: N as u8,
+        }
+    }
+
+    // The numbers.
+    pub fn as_slice(&self) -> &[u16]
+        ensures { (result.now ≡ take self.now.count self.now.items) × (length result.now ≤ 8) }
+    {
+        &self.items[..usize::from(self.count)]
+    }
+}
+
+// An instruction. Parts that its operation does not have are 0, and rows are empty.
 #[derive(Clone, Copy)]
 pub struct Instruction {
     pub id: u64,
     pub op: Op,
     pub dest: NameIx,
     pub literal: Literal,
-    pub count: u8,
-    pub args: [u16; 8],
+    pub args: Row,
     pub callee: u16,
-    pub blocks: [u16; 8],
+    pub blocks: Row,
 }
 
 // What follows an instruction's code: whether the code is known and stands last in its block, whether a literal and a destination follow,
 // the fewest and the most arguments, whether a callee follows, and how many block numbers, or whether one for each argument.
-#[derive(Clone, Copy)]
+// `blocks` is 0 where `each` holds, as in the definitions' table of shapes: an enum of the two would be looked through in every definition of a
+// record's blocks, and say no more.
+#[derive(Clone, Copy, PartialEq, Eq, Debug)]
 pub struct Shape {
     pub known: bool,
     pub last: bool,
@@ -65,7 +108,7 @@ pub struct Shape {
 
 // What a record is read with: the most names, the longest text, the most instructions of a block, and whether made names may stand in it,
 // so that reserved texts and nonzero saves pass.
-#[derive(Clone, Copy)]
+#[derive(Clone, Copy, PartialEq, Eq, Debug)]
 pub struct Limits {
     pub names: u64,
     pub text: u64,
@@ -84,6 +127,25 @@ pub enum Refusal {
     Name,
     Types,
     Place,
+}
+
+// Document 01's number of a refusal.
+impl From<Refusal> for u8 {
+    ghost from_gives = { λ k n. n ≡ number k };
+
+    #[tactic(auto, unfolding(crate::specs::Answer::number))]
+    fn from(k: Refusal) -> u8 {
+        match k {
+            Refusal::Length => 1,
+            Refusal::Version => 2,
+            Refusal::Limit => 3,
+            Refusal::Text => 4,
+            Refusal::Code => 5,
+            Refusal::Name => 6,
+            Refusal::Types => 7,
+            Refusal::Place => 8,
+        }
+    }
 }
 
 // The first fault of a record: the reason of the refusal, and the offset of the field.

@@ -1,22 +1,20 @@
 // Replays records with their figures, read from standard input: each line a record in hexadecimal, a number and two values. They are 0, the
 // bytes and the saves of the rewriting of a record that is accepted, and then each block's figure; or the number and offset of a refusal,
 // and 0. Writes for how many lines figures answers so, and for how many not.
+// as: a number that is known to fit, or u64 and usize, which have no From; try_from would hand out an error that cannot be.
 #![tactic(auto)]
 
 ghost use Rattle.std.specs.Prelude.{◌≤◌, length};
 
 use numbering::{FiguresError, Totals};
-use replay_lines::Cursor;
+use replay_lines::{Cursor, Expected};
 use std::io;
-
-// More places than an accepted record has blocks.
-const MOST: usize = 66;
 
 // What each place has at the start.
 const FILL: u16 = 61166;
 
 // What a line says of the answer: its number, the values that go with it, and each block's figure.
-#[derive(Clone, Copy)]
+#[derive(Clone, Copy, PartialEq, Eq, Debug)]
 pub struct Answer<'a> {
     pub number: u64,
     pub value: u64,
@@ -31,42 +29,40 @@ impl Answer<'_> {
             Ok(t) => {
                 self.number == 0 && self.value == t.bytes as u64 && self.saves == t.saves as u64
             }
-            Err(FiguresError::Refused(f)) => {
-                self.number == u64::from(checker::number_of(f.refusal))
-                    && self.value == f.offset as u64
-            }
-            Err(FiguresError::TooFew) => self.number == 12,
+            Err(e) => self.number == u64::from(e.number()) && self.value == e.value() as u64,
         }
+    }
+}
+
+impl Expected for Answer<'_> {
+    // More places than an accepted record has blocks.
+    const MOST: usize = 66;
+
+    fn number(self) -> u64 {
+        self.number
     }
 
     // Whether figures, with so many places, answers so and puts these figures there, no other place changed.
-    pub fn comes(self, record: &[u8], count: usize) -> bool {
-        let mut places = [FILL; MOST];
-        if count > MOST {
-            return false;
-        }
-        let a = figures::figures(record, &mut places[..count]);
-        self.is(a) && replay_lines::holds_before_fill(&places, self.each, FILL)
+    fn comes(self, record: &[u8], count: usize) -> bool {
+        let mut places = [FILL; Self::MOST];
+        replay_lines::leaves(&mut places, count, self.each, FILL, |lent| {
+            self.is(figures::figures(record, lent))
+        })
     }
 
-    // Whether an accepted record is answered so: with as many places as blocks, with one more, and with one too few.
-    pub fn comes_accepted(self, record: &[u8]) -> bool {
+    // With as many places as blocks, with one more, and with one too few.
+    fn comes_accepted(self, record: &[u8]) -> bool {
         let n = self.each.len();
         let few = Answer {
-            number: 12,
+            number: u64::from(FiguresError::TooFew.number()),
             value: 0,
             saves: 0,
             each: &[],
         };
-        n < MOST
+        n < Self::MOST
             && self.comes(record, n)
             && self.comes(record, n + 1)
             && (n == 0 || few.comes(record, n - 1))
-    }
-
-    // Whether a refused one is: with many places, and with none.
-    pub fn comes_refused(self, record: &[u8]) -> bool {
-        self.comes(record, MOST) && self.comes(record, 0)
     }
 }
 
@@ -74,21 +70,15 @@ impl Answer<'_> {
 pub fn numbers<'a>(line: &mut Cursor<'_>, places: &'a mut [u16]) -> &'a [u16]
     ensures { length result.now ≤ length places.old }
 {
-    let mut n = 0;
-    for x in places.iter_mut() {
-        if !line.skip(b' ') {
-            break;
-        }
-        *x = (line.number() % 65536) as u16;
-        n += 1;
-    }
-    &places[..n]
+    line.each(places, |rest| {
+        rest.skip(b' ').then(|| (rest.number() % 65536) as u16)
+    })
 }
 
 // Reads a line, and returns whether figures answers as it says; number 0 stands for a record that is accepted.
 pub fn figures_line(line: &mut Cursor<'_>) -> bool {
     let mut input = [0u8; 4096];
-    let mut places = [0u16; MOST];
+    let mut places = [0u16; Answer::MOST];
     let record = line.bytes(&mut input);
     let number = line.number();
     let value = line.number();
@@ -100,11 +90,7 @@ pub fn figures_line(line: &mut Cursor<'_>) -> bool {
         saves,
         each,
     };
-    if number == 0 {
-        answer.comes_accepted(record)
-    } else {
-        answer.comes_refused(record)
-    }
+    answer.agrees(record)
 }
 
 fn main(rt: HostRuntime) -> io::Result<()> {

@@ -2,7 +2,7 @@
 // the lines that agree.
 #![tactic(auto)]
 
-ghost use Rattle.std.specs.Prelude.{◌+◌, ◌≡◌, ◌<◌, ◌≤◌, length, IfSome};
+ghost use Rattle.std.specs.Prelude.{◌+◌, ◌≡◌, ◌<◌, ◌≤◌, true, length, IfSome};
 
 use std::io::{Read, Write};
 use std::{fmt, io};
@@ -11,7 +11,7 @@ use std::{fmt, io};
 pub const LONGEST: usize = 524288;
 
 // What is left to read of a list, or of a line.
-#[derive(Clone, Copy)]
+#[derive(Clone, Copy, PartialEq, Eq, Debug)]
 pub struct Cursor<'a> {
     rest: &'a [u8],
 }
@@ -52,23 +52,39 @@ impl<'a> Cursor<'a> {
         value
     }
 
+    // Reads two hexadecimal digits, and returns the byte that they stand for; none where they do not come next.
+    fn byte(&mut self) -> Option<u8> {
+        let [high, low, rest @ ..] = self.rest else {
+            return None;
+        };
+        let value = hex_digit(*high)? * 16 + hex_digit(*low)?;
+        self.rest = rest;
+        Some(value)
+    }
+
+    // Puts what `next` reads into the places, as far as it reads and they go, and returns what it put there.
+    pub fn each<'b, T: Copy, F: Fn(&mut Cursor<'a>) -> Option<T>>(
+        &mut self,
+        places: &'b mut [T],
+        next: F,
+    ) -> &'b [T]
+        requires { F.IsAlwaysCallable next }
+        ensures { length result.now ≤ length places.old }
+    {
+        for (n, x) in places.iter_mut().enumerate() {
+            let Some(value) = next(self) else {
+                return &places[..n];
+            };
+            *x = value;
+        }
+        places
+    }
+
     // Reads hexadecimal digits, two to a byte, as far as they and the room go, and returns the bytes that they stand for.
     pub fn bytes<'b>(&mut self, room: &'b mut [u8]) -> &'b [u8]
         ensures { length result.now ≤ length room.old }
     {
-        let mut n = 0;
-        for x in room.iter_mut() {
-            let [high, low, rest @ ..] = self.rest else {
-                break;
-            };
-            let (Some(high), Some(low)) = (hex_digit(*high), hex_digit(*low)) else {
-                break;
-            };
-            *x = high * 16 + low;
-            self.rest = rest;
-            n += 1;
-        }
-        &room[..n]
+        self.each(room, |line| line.byte())
     }
 }
 
@@ -85,14 +101,58 @@ pub fn hex_digit(c: u8) -> Option<u8>
 
 // Whether these stand first, and beyond them nothing but `fill`.
 pub fn holds_before_fill<T: Copy + PartialEq>(all: &[T], first: &[T], fill: T) -> bool {
-    match all.strip_prefix(first) {
-        Some(rest) => rest.iter().all(|x| *x == fill),
-        None => false,
+    all.strip_prefix(first)
+        .is_some_and(|rest| rest.iter().all(|x| *x == fill))
+}
+
+// Whether this answers as it should where so many of all places are lent to it, which hold `fill`, and then these stand first in them, no
+// other place changed.
+pub fn leaves<T: Copy + PartialEq, F: FnOnce(&mut [T]) -> bool>(
+    all: &mut [T],
+    count: usize,
+    first: &[T],
+    fill: T,
+    answers: F,
+) -> bool
+    requires { F.IsAlwaysCallable answers }
+    ensures { result ≡ true → count ≤ length all.old }
+{
+    if count > all.len() {
+        return false;
+    }
+    answers(&mut all[..count]) && holds_before_fill(all, first, fill)
+}
+
+// What a line says of the answer for a record, which is 0 or the number of a refusal, and of what is then in the places lent.
+pub trait Expected: Copy {
+    // More places than an answer needs.
+    const MOST: usize;
+
+    fn number(self) -> u64;
+
+    // Whether it is answered so with so many places lent, and these hold what they should.
+    fn comes(self, record: &[u8], count: usize) -> bool;
+
+    // Whether a record that is accepted is.
+    fn comes_accepted(self, record: &[u8]) -> bool;
+
+    // Whether a refused one is: with many places, and with none.
+    fn comes_refused(self, record: &[u8]) -> bool {
+        self.comes(record, Self::MOST) && self.comes(record, 0)
+    }
+
+    // Whether a record is, accepted where the number is 0.
+    fn agrees(self, record: &[u8]) -> bool {
+        if self.number() == 0 {
+            self.comes_accepted(record)
+        } else {
+            self.comes_refused(record)
+        }
     }
 }
 
 // How many lines agreed and how many did not.
-#[derive(Clone, Copy)]
+#[derive(Clone, Copy, PartialEq, Eq, Debug)]
 pub struct Counts {
     pub same: usize,
     pub other: usize,

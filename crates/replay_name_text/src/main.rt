@@ -1,6 +1,7 @@
 // Replays name text over a list that is read from standard input: each line an input and a rewriting in hexadecimal and an index; then the
 // number and offset of the refusal, 0 0 for a text; 0 for a part of the input or 1 for one of the rewriting, its start, its length and its
 // bytes. Writes for how many lines name text tells so, and for how many not.
+// as: a number that is known to fit, or u64 and usize, which have no From; try_from would hand out an error that cannot be.
 #![tactic(auto)]
 
 use name_text::Place;
@@ -9,11 +10,11 @@ use replay_lines::Cursor;
 use std::io;
 
 // What a line says of the answer, and of the part and its bytes.
-#[derive(Clone, Copy)]
+#[derive(Clone, Copy, PartialEq, Eq, Debug)]
 pub struct Told<'a> {
     pub number: u64,
     pub offset: u64,
-    pub rewriting: u64,
+    pub rewriting: bool,
     pub from: u64,
     pub count: u64,
     pub bytes: &'a [u8],
@@ -24,24 +25,23 @@ impl Told<'_> {
     pub fn is(self, a: Result<(), NameError>) -> bool {
         match a {
             Ok(()) => self.number == 0 && self.offset == 0,
-            Err(NameError::Refused(f)) => {
-                self.number == u64::from(checker::number_of(f.refusal))
-                    && self.offset == f.offset as u64
-            }
-            Err(NameError::Mismatch) => self.number == 11 && self.offset == 0,
+            Err(e) => self.number == u64::from(e.number()) && self.offset == e.value() as u64,
         }
     }
 
     // Whether the part lies where the line says; that of a refusal is the empty one at the input's start.
     pub fn lies(self, found: Result<Place, NameError>) -> bool {
-        let p = found.unwrap_or(Place {
+        let empty = Place {
             rewriting: false,
             from: 0,
             count: 0,
-        });
-        p.rewriting == (self.rewriting == 1)
-            && p.from as u64 == self.from
-            && p.count as u64 == self.count
+        };
+        let told = Place {
+            rewriting: self.rewriting,
+            from: self.from as usize,
+            count: self.count as usize,
+        };
+        found.unwrap_or(empty) == told
     }
 
     // Whether all of name text tells so: the part and its answer, the answer alone, and the bytes.
@@ -65,7 +65,7 @@ pub fn name_text_line(line: &mut Cursor<'_>) -> bool {
     let index = line.number();
     let number = line.number();
     let offset = line.number();
-    let side = line.number();
+    let side = line.number() == 1;
     let from = line.number();
     let count = line.number();
     line.skip(b' ');

@@ -1,20 +1,18 @@
 // Replays records with their rewritings, read from standard input: each line a record in hexadecimal, a number, a value and bytes. They are
 // 0, the saves and the rewriting of a record that is accepted; or the number and offset of a refusal, and no bytes.
 // Writes for how many lines rewrite answers so, and for how many not.
+// as: a number that is known to fit, or u64 and usize, which have no From; try_from would hand out an error that cannot be.
 #![tactic(auto)]
 
 use numbering::{RewriteError, Totals};
-use replay_lines::Cursor;
+use replay_lines::{Cursor, Expected};
 use std::io;
-
-// The length of the longest output.
-const MOST: usize = 8192;
 
 // What each byte of an output is at the start.
 const FILL: u8 = 0xEE;
 
 // What a line says of the answer: its number, its value and the bytes that are put into the output.
-#[derive(Clone, Copy)]
+#[derive(Clone, Copy, PartialEq, Eq, Debug)]
 pub struct Answer<'a> {
     pub number: u64,
     pub value: u64,
@@ -28,45 +26,46 @@ impl Answer<'_> {
             Ok(t) => {
                 self.number == 0 && self.value == t.saves as u64 && self.bytes.len() == t.bytes
             }
-            Err(RewriteError::Refused(f)) => {
-                self.number == u64::from(checker::number_of(f.refusal))
-                    && self.value == f.offset as u64
-            }
-            Err(RewriteError::Room(n)) => self.number == 9 && self.value == n as u64,
+            Err(e) => self.number == u64::from(e.number()) && self.value == e.value() as u64,
         }
+    }
+}
+
+impl Expected for Answer<'_> {
+    // The length of the longest output.
+    const MOST: usize = 8192;
+
+    fn number(self) -> u64 {
+        self.number
     }
 
     // Whether rewrite, with an output of this length, answers so and puts these bytes there, no other changed.
-    pub fn comes(self, record: &[u8], length: usize) -> bool {
-        let mut out = [FILL; MOST];
-        if length > MOST {
-            return false;
-        }
-        let a = rewrite::rewrite(record, &mut out[..length]);
-        self.is(a) && replay_lines::holds_before_fill(&out, self.bytes, FILL)
+    fn comes(self, record: &[u8], length: usize) -> bool {
+        let mut out = [FILL; Self::MOST];
+        replay_lines::leaves(&mut out, length, self.bytes, FILL, |lent| {
+            self.is(rewrite::rewrite(record, lent))
+        })
     }
 
-    // Whether an accepted record is answered so: with bytes to spare, with as many as are needed, and with one too few.
-    pub fn comes_accepted(self, record: &[u8]) -> bool {
+    // With bytes to spare, with as many as are needed, and with one too few.
+    fn comes_accepted(self, record: &[u8]) -> bool {
         let n = self.bytes.len();
         let room = Answer {
-            number: 9,
+            number: u64::from(RewriteError::Room(n).number()),
             value: n as u64,
             bytes: &[],
         };
-        n > 0 && self.comes(record, MOST) && self.comes(record, n) && room.comes(record, n - 1)
-    }
-
-    // Whether a refused one is: with a long output, and with an empty one.
-    pub fn comes_refused(self, record: &[u8]) -> bool {
-        self.comes(record, MOST) && self.comes(record, 0)
+        n > 0
+            && self.comes(record, Self::MOST)
+            && self.comes(record, n)
+            && room.comes(record, n - 1)
     }
 }
 
 // Reads a line, and returns whether rewrite answers as it says; number 0 stands for a record that is accepted.
 pub fn rewrite_line(line: &mut Cursor<'_>) -> bool {
     let mut input = [0u8; 4096];
-    let mut output = [0u8; MOST];
+    let mut output = [0u8; Answer::MOST];
     let record = line.bytes(&mut input);
     let number = line.number();
     let value = line.number();
@@ -77,11 +76,7 @@ pub fn rewrite_line(line: &mut Cursor<'_>) -> bool {
         value,
         bytes,
     };
-    if number == 0 {
-        answer.comes_accepted(record)
-    } else {
-        answer.comes_refused(record)
-    }
+    answer.agrees(record)
 }
 
 fn main(rt: HostRuntime) -> io::Result<()> {

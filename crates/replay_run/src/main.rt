@@ -1,6 +1,7 @@
 // Replays runs of records, read from standard input: each line a record, a store and a list of answers in hexadecimal, `-` for one that is
 // empty, the limit, the number and the five values of the answer, then the events and the final store in hexadecimal, `-` for none. Writes
 // for how many lines the engine answers so, and leaves in what is lent what it should, and for how many not.
+// as: a number that is known to fit, or u64 and usize, which have no From; try_from would hand out an error that cannot be.
 #![tactic(auto)]
 
 ghost use Rattle.std.specs.Prelude.{◌≤◌, length};
@@ -18,7 +19,7 @@ const STORE: usize = 4363;
 const FILL: u8 = 0xEE;
 
 // What is run: a record, a store, a list of answers and a limit.
-#[derive(Clone, Copy)]
+#[derive(Clone, Copy, PartialEq, Eq, Debug)]
 pub struct Case<'a> {
     pub record: &'a [u8],
     pub store: &'a [u8],
@@ -27,7 +28,7 @@ pub struct Case<'a> {
 }
 
 // What a line says of the answer: its number and values, the events and the final store.
-#[derive(Clone, Copy)]
+#[derive(Clone, Copy, PartialEq, Eq, Debug)]
 pub struct Answer<'a> {
     pub number: u64,
     pub values: [u64; 5],
@@ -47,27 +48,27 @@ impl Answer<'_> {
     pub fn comes(self, case: Case<'_>, room: usize, more: usize) -> bool {
         let mut out = [FILL; EVENTS];
         let mut last = [FILL; STORE];
-        if room > EVENTS || more > STORE {
-            return false;
-        }
-        let a = engine::run(
-            case.record,
-            case.store,
-            case.answers,
-            case.limit,
-            &mut out[..room],
-            &mut last[..more],
-        );
-        self.is(a)
-            && replay_lines::holds_before_fill(&out, self.events, FILL)
-            && replay_lines::holds_before_fill(&last, self.left, FILL)
+        replay_lines::leaves(&mut out, room, self.events, FILL, |events| {
+            replay_lines::leaves(&mut last, more, self.left, FILL, |left| {
+                self.is(engine::run(
+                    case.record,
+                    case.store,
+                    case.answers,
+                    case.limit,
+                    events,
+                    left,
+                ))
+            })
+        })
     }
 
-    // Whether it answers 14 and puts nothing there, with so many bytes lent where these events and this store do not fit.
+    // Whether it answers that there is no room and puts nothing there, with so many bytes lent where these events and this store do not fit.
     pub fn falls_short(self, case: Case<'_>, room: usize, more: usize) -> bool {
+        let e = self.events.len();
+        let l = self.left.len();
         let short = Answer {
-            number: 14,
-            values: [self.events.len() as u64, self.left.len() as u64, 0, 0, 0],
+            number: u64::from(RunError::Room(e, l).number()),
+            values: [e as u64, l as u64, 0, 0, 0],
             events: &[],
             left: &[],
         };

@@ -12,12 +12,11 @@ use Rattle.arith.proofs.Clash.{clash}
 use Rattle.record.specs.Record.{Placed, Record, plain, limits}
 use Rattle.record.specs.Reader.{Res, got, fault}
 use Rattle.record.specs.Typing.{accept}
-use Rattle.std.specs.Prelude.{Result, Ok, Err}
-use Rattle.record.specs.declared.Fault.{Fault}
-use Rattle.record.specs.Answer.{Returned, number}
+use Rattle.std.specs.Prelude.{Ok, Err}
+use Rattle.record.specs.Answer.{Returned}
 use Rattle.numbering.specs.declared.Totals.{Totals}
 use Rattle.numbering.specs.declared.RewriteError.{RewriteError}
-use Rattle.numbering.specs.declared.RewriteError.TheVariants.{Refused, Room}
+use Rattle.numbering.specs.declared.RewriteError.TheVariants.{Room}
 use Rattle.numbering.specs.Made.{made}
 use Rattle.numbering.specs.Rewrite.{Rewritten, totals, rewrite_answer, rewritten_bytes, rewrite_result, rewrite_output, rewrite, rewrite_leaves}
 use Rattle.numbering.specs.Program.{most_input, buffer_size, refused_line, shown, output_with, program_output}
@@ -71,24 +70,18 @@ unfolding output_with
 prints_answer b s a l h e = sym (program_prints b s l) ∙ rw (le-ltb most_input (length s) h, e)
 
 pub prints_refused :
-    (b s : List ℕ) (f : Fault) (n : ℕ) →
+    (b s : List ℕ) (e : RewriteError) (n v : ℕ) →
     length b ≡ buffer_size →
     length s ≤ most_input →
-    rewrite s b ≡ Err (Refused f) →
-    n ≡ number f.refusal →
-    program_output s ≡ refused_line (record { number = n; values = f.offset ∷ [] })
-unfolding shown rewrite_answer
-prints_refused b s f n l h e g =
-    prints_answer b s (Err (Refused f)) l h e ∙ ap (λ (m : ℕ). refused_line (record { number = m; values = f.offset ∷ [] })) (sym g)
-
-pub prints_room :
-    (b s : List ℕ) (n : ℕ) →
-    length b ≡ buffer_size →
-    length s ≤ most_input →
-    rewrite s b ≡ Err (Room n) →
-    program_output s ≡ refused_line (record { number = 9; values = n ∷ [] })
-unfolding shown rewrite_answer
-prints_room b s n l h e = prints_answer b s (Err (Room n)) l h e
+    rewrite s b ≡ Err e →
+    n ≡ (rewrite_answer (Err e)).number →
+    (rewrite_answer (Err e)).values ≡ v ∷ [] →
+    program_output s ≡ refused_line (record { number = n; values = v ∷ [] })
+unfolding shown
+prints_refused b s e n v l h q f g =
+    prints_answer b s (Err e) l h q ∙
+    ap (λ (m : ℕ). refused_line (record { number = m; values = (rewrite_answer (Err e)).values })) (sym f) ∙
+    ap (λ (vs : List ℕ). refused_line (record { number = n; values = vs })) g
 
 -- ---- what stands in the buffer
 -- m: the buffer after the line, or the rewriting, was put there

@@ -9,9 +9,9 @@ use Rattle.record.specs.Again.{record_in, types_in, Reads}
 use Rattle.numbering.specs.Made.{made, rewriting}
 use Rattle.numbering.specs.Rewrite.{Rewritten, rewrite_result, rewrite_output}
 use Rattle.numbering.specs.Figures.{instructions}
-use Rattle.read_layout.specs.Layout.{NamesAt, layout_of}
-use Rattle.lvn_blocks.specs.declared.Source.{Source}
+use Rattle.read_layout.specs.Layout.{NamesAt}
 use Rattle.lvn_blocks.specs.Block.{indexes}
+use Rattle.rewrite.specs.declared.Opened.{Opened}
 
 -- the rewriting of the record that stands in these bytes
 abbrev pub rewriting_in : List ℕ → Record Instr
@@ -44,20 +44,16 @@ abbrev pub most_saves : ℕ
 most_saves = 16384
 
 -- what is known of a record that is laid open
-pub record Opened (x : Source) : Type 0 where
-  pub reads : Reads x.reads.now x.layout.end
-  pub layout : x.layout ≡ layout_of x.reads.now
+pub record Typed (x : Opened) : Type 0 where
+  pub reads : Reads x.reads.now x.end
   pub types : x.types.now ≡ types_in x.reads.now
-
--- and of the places of its names
-pub record Typed (x : Source) : Type 0 where
-  pub opened : Opened x
   pub places : NamesAt x.reads.now x.places.now (names_count x.reads.now)
 
--- what numbering its blocks is lent beside it: a table for what each K saves
-pub record Lent (x : Source) (ms : List ℕ) : Type 0 where
-  pub opened : Opened x
-  pub names : most_body * num_at x.reads.now x.layout.end 2 ≤ length ms
+-- what numbering its blocks is lent: the types, and a table for what each K saves
+pub record Lent (x : Opened) (ms : List ℕ) : Type 0 where
+  pub reads : Reads x.reads.now x.end
+  pub types : x.types.now ≡ types_in x.reads.now
+  pub names : most_body * num_at x.reads.now x.end 2 ≤ length ms
 
 -- the answer and what it leaves of an output are those of the record that stands in these bytes
 abbrev pub Answered : List ℕ → List ℕ → Rewritten → List ℕ → Type 0

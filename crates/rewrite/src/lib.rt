@@ -1,9 +1,10 @@
 // Rewrite: a record is checked and its rewriting written. Where the output surely has room, the blocks are written once and then moved
 // behind the names that are made. Otherwise they are numbered twice: over an empty output, which gives the bytes needed and the made
 // names, then over the output.
+// as: a number that is known to fit, or u64 and usize, which have no From; try_from would hand out an error that cannot be.
 #![tactic(auto)]
 
-ghost use Rattle.std.specs.Prelude.{Ok, ◌≡◌, ◌∷◌, ◌+◌, ◌*◌, ◌≤◌, length};
+ghost use Rattle.std.specs.Prelude.{Ok, ◌≡◌, ◌∷◌, ◌+◌, ◌*◌, ◌<◌, ◌≤◌, length};
 ghost use Rattle.record.specs.Reader.{num_at};
 ghost use Rattle.record.specs.Write.{be, join, bytes};
 ghost use Rattle.record.specs.Answer.{checked};
@@ -13,20 +14,48 @@ ghost use Rattle.record.specs.Again.{record_in, Reads};
 ghost use Rattle.numbering.specs.Made.{made};
 ghost use Rattle.numbering.specs.Rewrite.{rewrite, rewrite_leaves};
 ghost use Rattle.write_bytes.specs.Put.{put, Wrote};
-ghost use Rattle.read_layout.specs.Layout.{NamesAt};
+ghost use Rattle.read_layout.specs.Layout.{NamesAt, layout_of};
 ghost use Rattle.lvn_blocks.specs.Block.{indexes};
 ghost use Rattle.rewrite.specs.Parts.{rewriting_in, figures_in, front_parts, blocks_bytes, Lent, Typed, Noted, Answered, longest_front, longest_blocks, longest_rewriting, most_saves};
 
-use lvn_blocks::{Behind, Source, Spot};
-use lvn_state::{LvnState, NAMES};
+use lvn_blocks::{Behind, BlockState, Source, Spot};
+use lvn_state::NAMES;
 use numbering::{RewriteError, Totals};
+use read_layout::Layout;
 use write_names::Names;
 
+// A record that is laid open: its bytes, the types and places of its names, and where these end. Source and Names are made of it where they are
+// asked for: the crates below have each a part of it and nothing of the other's. The two tables are arrays of who opens a record, as here, in
+// figures, in engine and in checker: a struct that owned them would be longer than these lines, and be copied out of what makes it.
+#[derive(Clone, Copy)]
+pub struct Opened<'a> {
+    pub reads: &'a [u8],
+    pub types: &'a [u8],
+    pub places: &'a [u32],
+    pub end: usize,
+}
+
+// What its head says.
+fn head_of(src: &Opened) -> Layout
+    requires { Reads src.now.reads.now src.now.end }
+    ensures { (result ≡ layout_of src.now.reads.now) × (result.end ≡ src.now.end) }
+{
+    let s = src.reads;
+    Layout {
+        width: read_layout::id_width(s),
+        args: read_fields::byte_or(s, 5) as u16,
+        names: read_fields::be::<2>(s, 6) as u16,
+        end: src.end,
+        blocks: read_fields::be::<2>(s, src.end) as usize,
+    }
+}
+
 // The blocks of the rewriting, from a place on; the place behind them, and the count of saves. names: what each K saved; each: how many
-// instructions each block has.
+// instructions each block has. They and out are a parameter each: a struct of lent slices was tried, and of one that measure makes no proof
+// finds what then stands in names.
 pub fn put_blocks(
-    st: &mut LvnState,
-    src: &Source,
+    st: &mut BlockState,
+    src: &Opened,
     names: &mut [u16],
     each: &mut [u16],
     out: &mut [u8],
@@ -37,29 +66,35 @@ pub fn put_blocks(
         (Noted src.now.reads.now names.new result.count.total × ((result.at.q ≤ at + longest_blocks) ×
         (each.new ≡ put each.old 0 (figures_in src.now.reads.now)))) }
 {
+    let layout = head_of(src);
+    let source = Source {
+        reads: src.reads,
+        layout,
+        types: src.types,
+    };
     let from = Spot {
-        p: src.layout.end + 2,
+        p: layout.end + 2,
         q: at,
     };
-    lvn_blocks::blocks_lvn(st, src, names, each, out, from)
+    lvn_blocks::blocks_lvn(st, &source, names, each, out, from)
 }
 
 // All that stands before the blocks: L, version, A and N, the names, B; the place behind it. rest: L; row: the names of which K = 0, 1, ..
 // are made.
-pub fn put_front(src: &Source, row: &[u16], out: &mut [u8], rest: u32) -> usize
-    requires { Reads src.now.reads.now src.now.layout.end × ((row.now ≡ indexes (made (record_in src.now.reads.now)))
+pub fn put_front(src: &Opened, row: &[u16], out: &mut [u8], rest: u32) -> usize
+    requires { Reads src.now.reads.now src.now.end × ((row.now ≡ indexes (made (record_in src.now.reads.now)))
         × NamesAt src.now.reads.now src.now.places.now (names_count src.now.reads.now)) }
     ensures { Wrote out.old out.new 0 result (join (be 4 rest ∷ front_parts (rewriting_in src.now.reads.now))) ×
-        ((result ≤ longest_front) × (src.now.layout.end + 2 ≤ result)) }
+        ((result ≤ longest_front) × (src.now.end + 2 ≤ result)) }
 {
     let s = src.reads;
     let version = read_fields::byte_or(s, 4) as u8;
     let args = read_fields::byte_or(s, 5) as u8;
     let n = read_fields::be::<2>(s, 6) as u16;
-    let count = read_fields::be::<2>(s, src.layout.end) as u16;
+    let count = read_fields::be::<2>(s, src.end) as u16;
     write_bytes::put_u32(out, 0, rest);
     write_names::put_record_head(out, version, args, n + row.len() as u16);
-    let p = write_names::copy_names(s, out, src.layout.end);
+    let p = write_names::copy_names(s, out, src.end);
     let names = Names {
         bytes: s,
         places: src.places,
@@ -70,37 +105,43 @@ pub fn put_front(src: &Source, row: &[u16], out: &mut [u8], rest: u32) -> usize
 }
 
 // How many bytes that is.
-pub fn front_size(src: &Source, row: &[u16]) -> usize
-    requires { Reads src.now.reads.now src.now.layout.end × ((row.now ≡ indexes (made (record_in src.now.reads.now)))
+pub fn front_size(src: &Opened, row: &[u16]) -> usize
+    requires { Reads src.now.reads.now src.now.end × ((row.now ≡ indexes (made (record_in src.now.reads.now)))
         × NamesAt src.now.reads.now src.now.places.now (names_count src.now.reads.now)) }
     ensures { (result ≡ length (join (be 4 0 ∷ front_parts (rewriting_in src.now.reads.now)))) ×
-        ((result ≤ longest_front) × (src.now.layout.end + 2 ≤ result)) }
+        ((result ≤ longest_front) × (src.now.end + 2 ≤ result)) }
 {
     let names = Names {
         bytes: src.reads,
         places: src.places,
     };
-    src.layout.end + 2 + names.made_size(row)
+    src.end + 2 + names.made_size(row)
 }
 
 // How many bytes and saves the rewriting has, by the blocks written to nothing; and the names that are made, and the instructions of each
 // block.
-pub fn measure(st: &mut LvnState, src: &Source, names: &mut [u16], each: &mut [u16]) -> Totals
+pub fn measure(st: &mut BlockState, src: &Opened, names: &mut [u16], each: &mut [u16]) -> Totals
     requires { Lent src.now names.old × NamesAt src.now.reads.now src.now.places.now (names_count src.now.reads.now) }
     ensures { (result.bytes ≡ length (bytes (rewriting_in src.now.reads.now))) ×
         (Noted src.now.reads.now names.new result.saves × ((result.bytes ≤ longest_rewriting) ×
-        (each.new ≡ put each.old 0 (figures_in src.now.reads.now)))) }
+        ((each.new ≡ put each.old 0 (figures_in src.now.reads.now)) × (result.saves < 65536)))) }
 {
     let b = put_blocks(st, src, names, each, &mut [], 0);
-    let at = front_size(src, &names[..b.count.total as usize]);
+    let at = front_size(src, &names[..usize::from(b.count.total)]);
     Totals {
         bytes: at + b.at.q,
-        saves: b.count.total as usize,
+        saves: usize::from(b.count.total),
     }
 }
 
 // The rewriting, whose size is known.
-pub fn put_record(st: &mut LvnState, src: &Source, names: &mut [u16], out: &mut [u8], size: Totals)
+pub fn put_record(
+    st: &mut BlockState,
+    src: &Opened,
+    names: &mut [u16],
+    out: &mut [u8],
+    size: Totals,
+)
     requires { Lent src.now names.old × (NamesAt src.now.reads.now src.now.places.now (names_count src.now.reads.now) ×
         (Noted src.now.reads.now names.old size.saves ×
         ((size.bytes ≡ length (bytes (rewriting_in src.now.reads.now))) × (size.bytes ≤ longest_rewriting)))) }
@@ -113,30 +154,30 @@ pub fn put_record(st: &mut LvnState, src: &Source, names: &mut [u16], out: &mut 
 
 // The rewriting, where the output has room: the blocks are written behind the input's names and moved behind the made ones, then what
 // stands before them.
-pub fn put_once(st: &mut LvnState, src: &Source, names: &mut [u16], out: &mut [u8]) -> Totals
+pub fn put_once(st: &mut BlockState, src: &Opened, names: &mut [u16], out: &mut [u8]) -> Totals
     requires { Lent src.now names.old × (NamesAt src.now.reads.now src.now.places.now (names_count src.now.reads.now)
         × (length (bytes (rewriting_in src.now.reads.now)) ≤ length out.old)) }
     ensures { (result.bytes ≡ length (bytes (rewriting_in src.now.reads.now))) ×
         ((result.saves ≡ length (made (record_in src.now.reads.now))) ×
-        (out.new ≡ put out.old 0 (bytes (rewriting_in src.now.reads.now)))) }
+        ((out.new ≡ put out.old 0 (bytes (rewriting_in src.now.reads.now))) × (result.saves < 65536))) }
 {
-    let from = src.layout.end + 2;
+    let from = src.end + 2;
     let b = put_blocks(st, src, names, &mut [], out, from);
     let n = b.at.q - from;
-    let row = &names[..b.count.total as usize];
+    let row = &names[..usize::from(b.count.total)];
     let at = front_size(src, row);
     write_bytes::move_up(out, from, at, n);
     put_front(src, row, out, (at + n - 4) as u32);
     Totals {
         bytes: at + n,
-        saves: b.count.total as usize,
+        saves: usize::from(b.count.total),
     }
 }
 
 // The answer, by way of the size.
 pub fn rewrite_measured(
-    st: &mut LvnState,
-    src: &Source,
+    st: &mut BlockState,
+    src: &Opened,
     names: &mut [u16],
     out: &mut [u8],
 ) -> Result<Totals, RewriteError>
@@ -151,31 +192,53 @@ pub fn rewrite_measured(
     Ok(size)
 }
 
-// Of an accepted record that has at most N saves. A rewriting has at most eight bytes for each of the input, so an output that long has room.
-pub fn rewrite_noting<const N: usize>(src: &Source, out: &mut [u8]) -> Result<Totals, RewriteError>
-    requires { Typed src.now × ((most_body * num_at src.now.reads.now src.now.layout.end 2 ≤ N) × (N ≤ most_saves)) }
+// Of an accepted record. names: a table for what each K saves. A rewriting has at most eight bytes for each of the input, so an output that
+// long has room.
+pub fn rewrite_noting(
+    src: &Opened,
+    names: &mut [u16],
+    out: &mut [u8],
+) -> Result<Totals, RewriteError>
+    requires { Typed src.now × (most_body * num_at src.now.reads.now src.now.end 2 ≤ length names.old) }
     ensures { Answered src.now.reads.now out.old result out.new }
 {
-    let mut names = [0u16; N];
-    let mut st = LvnState::new();
+    let mut st = BlockState::new();
     if out.len() / 8 >= src.reads.len() {
-        return Ok(put_once(&mut st, src, &mut names, out));
+        return Ok(put_once(&mut st, src, names, out));
     }
-    rewrite_measured(&mut st, src, &mut names, out)
+    rewrite_measured(&mut st, src, names, out)
 }
 
-// The same, with a table that is long enough: few blocks have few saves. figures has the same choice, since a const argument is not computed.
-pub fn rewrite_typed(src: &Source, out: &mut [u8]) -> Result<Totals, RewriteError>
+// A table for what each K of so many blocks saves, lent with what is written to a function: few blocks have few saves.
+pub fn with_table<T, R, F: FnOnce(&mut [u16], &mut [T]) -> R>(
+    blocks: u64,
+    out: &mut [T],
+    then: F,
+) -> R
+    requires few { most_body * blocks ≤ most_saves }
+    requires callable { (names : _) (o : _) → most_body * blocks ≤ length names.now → o.now ≡ out.old → F.pre then names o }
+    ensures { (names : _) × (filled : _) × (o : _) × (written : _) × ((most_body * blocks ≤ length names.now) ×
+        ((o.now ≡ out.old) × ((written.now ≡ out.new) × F.post then names o result filled written))) }
+{
+    if blocks <= 1 {
+        then(&mut [0; 256], out)
+    } else if blocks <= 4 {
+        then(&mut [0; 1024], out)
+    } else {
+        then(&mut [0; 16384], out)
+    }
+}
+
+// The same, over a table that is long enough.
+pub fn rewrite_typed(src: &Opened, out: &mut [u8]) -> Result<Totals, RewriteError>
     requires { Typed src.now }
     ensures { Answered src.now.reads.now out.old result out.new }
 {
-    if src.layout.blocks <= 1 {
-        rewrite_noting::<256>(src, out)
-    } else if src.layout.blocks <= 4 {
-        rewrite_noting::<1024>(src, out)
-    } else {
-        rewrite_noting::<16384>(src, out)
-    }
+    let noting = |names: &mut [u16], o: &mut [u8]|
+        requires { Typed src.now × (most_body * num_at src.now.reads.now src.now.end 2 ≤ length names.old) }
+        ensures { Answered src.entry.now.reads.now o.old result o.new }
+    { rewrite_noting(src, names, o) };
+    with_table(read_fields::be::<2>(src.reads, src.end), out, noting)
 }
 
 // Of an accepted record: the types and places of its names, then the rest.
@@ -187,12 +250,11 @@ pub fn rewrite_accepted(s: &[u8], out: &mut [u8]) -> Result<Totals, RewriteError
     let mut types = [0u8; NAMES];
     let mut places = [0u32; NAMES];
     let layout = read_layout::layout_of(s, &mut types, &mut places);
-    let count = layout.names as usize;
-    let src = Source {
+    let src = Opened {
         reads: s,
-        layout,
-        types: &types[..count],
+        types: &types[..usize::from(layout.names)],
         places: &places,
+        end: layout.end,
     };
     rewrite_typed(&src, out)
 }

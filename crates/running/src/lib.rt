@@ -1,8 +1,9 @@
 // Running an accession: definitions in specs/, and the types that they share with the code.
 #![tactic(auto)]
 
-ghost use Rattle.std.specs.Prelude.{◌≡◌};
+ghost use Rattle.std.specs.Prelude.{◌≡◌, Err};
 ghost use Rattle.running.specs.declared.RunError.TheVariants.{Refused};
+ghost use Rattle.running.specs.Engine.{engine_answer};
 
 use record::Fault;
 
@@ -32,6 +33,20 @@ pub enum RunError {
     Refused(Fault),
     Unfit,
     Room(usize, usize),
+}
+
+impl RunError {
+    // Its number.
+    #[tactic(auto, unfolding(crate::specs::Engine::engine_answer))]
+    pub fn number(self) -> u8
+        ensures { result ≡ (engine_answer (Err self)).number }
+    {
+        match self {
+            RunError::Refused(f) => u8::from(f.refusal),
+            RunError::Unfit => 13,
+            RunError::Room(..) => 14,
+        }
+    }
 }
 
 impl From<Fault> for RunError {

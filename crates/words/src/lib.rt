@@ -4,7 +4,7 @@
 ghost use Rattle.std.specs.Prelude.{◌≡◌, ◌<◌};
 ghost use Rattle.std.specs.Int.{w64};
 ghost use Rattle.std.proofs.Common.{to_z, of_z};
-ghost use Rattle.arith.specs.Word.{add_w, sub_w, mul_w, div_w, lt_w};
+ghost use Rattle.arith.specs.Word.{add_w, sub_w, mul_w, div_w, lt_w, negative, size};
 ghost use Rattle.arith.specs.Operation.{divide};
 ghost use Rattle.words.specs.View.{quotient_of, result_of};
 
@@ -30,6 +30,20 @@ pub fn mul(a: u64, b: u64) -> u64
     ensures { result ≡ mul_w a b }
 {
     a.wrapping_mul(b)
+}
+
+// Whether a word is that of an int below zero.
+pub fn negative(a: u64) -> bool
+    ensures { result ≡ negative a }
+{
+    a.cast_signed() < 0
+}
+
+// The size of an int.
+pub fn size(a: u64) -> u64
+    ensures { result ≡ size a }
+{
+    a.cast_signed().unsigned_abs()
 }
 
 // The quotient toward zero, modulo 2^64, where the divisor is not 0.

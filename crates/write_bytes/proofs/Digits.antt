@@ -23,28 +23,6 @@ digits_count (suc j) k h l =
     let one : 1 ≤ 10 ^ j = one-le-pow j 10 (omega arith) in
     one_more_digit k (omega arith) ∙ ap suc (digits_count j (k / 10) (omega arith) (omega arith))
 
--- four at a time
-four_more_digits : (k : ℕ) → 10000 ≤ k → length (digits k) ≡ 4 + length (digits (k / 10000))
-four_more_digits k h =
-    let e : k / 10 / 10 / 10 / 10 ≡ k / 10000 = omega arith in
-    let a = one_more_digit k (omega arith) in
-    let b = one_more_digit (k / 10) (omega arith) in
-    let c = one_more_digit (k / 10 / 10) (omega arith) in
-    let d = one_more_digit (k / 10 / 10 / 10) (omega arith) in
-    omega (arith, a, b, c, d, ap (λ (n : ℕ). length (digits n)) e)
-
--- n digits of k are counted, and those of `left` are not yet
-pub record Counted (k n left : ℕ) : Type 0 where
-  pub whole : n + length (digits left) ≡ length (digits k)
-  pub few : length (digits k) ≤ most_digits
-
-module _ {k n left : ℕ} where
-  pub four_counted : 10000 ≤ left → Counted k n left → Counted k (n + 4) (left / 10000)
-  four_counted h c = record { whole = omega (arith, four_more_digits left h, c.whole); few = c.few }
-
-  pub all_counted : (d : ℕ) → length (digits left) ≡ d → Counted k n left → (n + d ≡ length (digits k)) × (n + d ≤ most_digits)
-  all_counted d e c = (omega (arith, e, c.whole), omega (arith, e, c.whole, c.few))
-
 -- ---- from the last to the first
 -- the last n digits of k
 unfoldable pub last_digits : ℕ → ℕ → List ℕ

@@ -10,19 +10,19 @@ use Rattle.write_bytes.specs.Put.{put, Wrote}
 use Rattle.record.proofs.Stands.{length_be}
 use Rattle.write_bytes.proofs.Wrote.{wrote_append, wrote_join, wrote_last, wrote_number, wrote_before}
 
--- `_`, the text, `_lvn` as a number of four bytes, the digits
+-- `_`, the text, `_lvn`, the digits
 pub text_wrote :
-    {l m n o r : List ℕ} {i p q : ℕ} (t : List ℕ) (k : ℕ) →
+    {l m n o r : List ℕ} {i p j q : ℕ} (t : List ℕ) (k : ℕ) →
     m ≡ put l i (be 1 0x5F) →
     Wrote m n (i + 1) p t →
-    o ≡ put n p (be 4 0x5F6C766E) →
-    Wrote o r (p + 4) q (digits k) →
+    Wrote n o p j (0x5F ∷ 0x6C ∷ 0x76 ∷ 0x6E ∷ []) →
+    Wrote o r j q (digits k) →
     Wrote l r i q (made_text t k)
 unfolding be made_text
 text_wrote t k a b c d =
-    wrote_append (be 1 0x5F ++ t) (be 4 0x5F6C766E ++ digits k)
+    wrote_append (be 1 0x5F ++ t) (0x5F ∷ 0x6C ∷ 0x76 ∷ 0x6E ∷ digits k)
     (wrote_append (be 1 0x5F) t (wrote_number 1 0x5F a) b)
-    (wrote_append (be 4 0x5F6C766E) (digits k) (wrote_number 4 0x5F6C766E c) d)
+    (wrote_append (0x5F ∷ 0x6C ∷ 0x76 ∷ 0x6E ∷ []) (digits k) c d)
 
 -- the length is written behind the text
 pub name_wrote :

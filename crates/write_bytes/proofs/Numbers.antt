@@ -1,13 +1,14 @@
 -- Big-endian numbers by their bytes, and the width of an id.
-use Prim.Native.Nat.{ℕ, zero, suc, ◌+◌, ◌*◌, ◌/◌, ◌%◌, ◌^◌, ◌<◌, ◌≤◌}
+use Prim.Native.Nat.{ℕ, zero, suc, ◌+◌, ◌-◌, ◌*◌, ◌/◌, ◌%◌, ◌^◌, ◌<◌, ◌≤◌}
 use mathlib.Core.Path.{◌≡◌, refl, sym, ap, ◌∙◌}
 use mathlib.Core.Logic.{inl, inr}
 use mathlib.Core.List.{List, ◌∷◌}
+use lib.ListN.{take, drop}
 use native.Mathlib.Omega.{arith}
 use native.Mathlib.Nat.{add_assoc, add-mul, one-mul, mul_comm, mul_assoc, mul-le-mul_right, one-le-pow, pow-suc, mod-lt, mod-mod, mod-eq_of_lt, div-eq_of_lt, div-add-mod', mul-add-mod_self_right, mul-add-div_right}
 use Rattle.record.specs.Record.{id_bytes}
 use Rattle.record.specs.Write.{be}
-use Rattle.std.specs.Int.{bytes_high_first}
+use Rattle.std.specs.Int.{byte_at, bytes_high_first}
 use Rattle.write_bytes.specs.Put.{put, IdWidth}
 
 -- ---- digits in two bases
@@ -50,10 +51,28 @@ be_low (suc w) x =
     let g : x % 256 ^ suc (suc w) % p ≡ x % p = ap (λ (n : ℕ). x % n % p) e ∙ mod_both_mod x 256 p (omega arith) hp in
     ap (λ (l : List ℕ). x / p % 256 ∷ l) (be_low w x) ∙ rw (f, g)
 
--- put in w bytes, from what is put by the bytes
+-- the last n of m bytes
+all_bytes : (n x : ℕ) → take n (bytes_high_first n x) ≡ bytes_high_first n x
+all_bytes zero x = refl
+all_bytes (suc n) x = ap (λ (l : List ℕ). byte_at n x ∷ l) (all_bytes n x)
+
+low_bytes : (m k n x : ℕ) → m ≡ k + n → take n (drop k (bytes_high_first m x)) ≡ bytes_high_first n x
+low_bytes m zero n x e = let f : m ≡ n = omega arith in ap (λ (m : ℕ). take n (bytes_high_first m x)) f ∙ all_bytes n x
+low_bytes zero (suc k) n x e = absurd (omega arith)
+low_bytes (suc m) (suc k) n x e = low_bytes m k n x (omega arith)
+
+number_bytes : (n x : ℕ) → x < 256 ^ n → bytes_high_first n x ≡ be n x
+unfolding be
+number_bytes zero x g = refl
+number_bytes (suc w) x g = be_low w x ∙ ap (be (suc w)) (mod-eq_of_lt g)
+
+-- put in n bytes, from what is put by the last of the eight
 pub bytes_put :
-    (l : List ℕ) (i w x : ℕ) {m bs : List ℕ} → x < 256 ^ suc w → bs ≡ bytes_high_first (suc w) x → m ≡ put l i bs → m ≡ put l i (be (suc w) x)
-bytes_put l i w x h e p = p ∙ ap (put l i) (e ∙ be_low w x ∙ ap (be (suc w)) (mod-eq_of_lt h))
+    (l : List ℕ) (i n x : ℕ) {m bs : List ℕ} → n ≤ 8 → x < 256 ^ n → bs ≡ bytes_high_first 8 x →
+    m ≡ put l i (take (8 - (8 - n)) (drop (8 - n) bs)) → m ≡ put l i (be n x)
+bytes_put l i n x h g e p =
+    let k : 8 - (8 - n) ≡ n = omega arith in
+    p ∙ ap (put l i) (rw (k, e) (low_bytes 8 (8 - n) n x (omega arith)) ∙ number_bytes n x g)
 
 -- ---- the width of an id
 pub width_four : {w : ℕ} → IdWidth w → (w ≡ 8 → ⊥) → w ≡ 4

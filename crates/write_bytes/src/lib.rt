@@ -1,5 +1,7 @@
 // Writing to a lent slice. `put_bytes` leaves out what would stand past the end, and the writers over it with it, so they ask for no room,
 // and over an empty slice they learn the size. Only `move_up` asks that what it writes lies inside.
+// Each takes out and at, and hands back the place behind: a struct of both would be a `&mut` slice lent on and taken back at each part, and say
+// no more. That `at + n < places` is asked by each, since n is another for each; a type of places would have to know the n of what is yet to come.
 #![tactic(auto)]
 
 ghost use Rattle.std.specs.Prelude.{◌≡◌, ◌+◌, ◌-◌, ◌^◌, ◌<◌, ◌≤◌, length, take, drop};
@@ -25,34 +27,42 @@ fn put_bytes(out: &mut [u8], at: usize, bytes: &[u8])
     }
 }
 
-// A number of one byte, of two, of four and of eight, the first the greatest: one function for each width, since over bytes alone every
-// caller would have to say which number they are.
-#[tactic(auto, unfolding(record::specs::Write::be))]
+// A number of N bytes, the first the greatest.
+#[inline(always)]
+pub fn put_be<const N: usize>(out: &mut [u8], at: usize, x: u64)
+    requires { (N ≤ 8) × (x < 256 ^ N) }
+    ensures { out.new ≡ put out.old at (be N x) }
+{
+    put_bytes(out, at, &u64::to_be_bytes(x)[8 - N..]);
+}
+
+// Of one byte, of two, of four and of eight, whose types say that the number fits.
 pub fn put_u8(out: &mut [u8], at: usize, x: u8)
     ensures { out.new ≡ put out.old at (be 1 x) }
 {
-    put_bytes(out, at, &[x]);
+    put_be::<1>(out, at, u64::from(x));
 }
 
 pub fn put_u16(out: &mut [u8], at: usize, x: u16)
     ensures { out.new ≡ put out.old at (be 2 x) }
 {
-    put_bytes(out, at, &u16::to_be_bytes(x));
+    put_be::<2>(out, at, u64::from(x));
 }
 
 pub fn put_u32(out: &mut [u8], at: usize, x: u32)
     ensures { out.new ≡ put out.old at (be 4 x) }
 {
-    put_bytes(out, at, &u32::to_be_bytes(x));
+    put_be::<4>(out, at, u64::from(x));
 }
 
 pub fn put_u64(out: &mut [u8], at: usize, x: u64)
     ensures { out.new ≡ put out.old at (be 8 x) }
 {
-    put_bytes(out, at, &u64::to_be_bytes(x));
+    put_be::<8>(out, at, x);
 }
 
-// x in w bytes: an id.
+// x in w bytes: an id. w is a number, as the definitions take it: an enum of the widths would be turned into it at each use, and would not grow
+// with the version of a record.
 pub fn put_word(out: &mut [u8], at: usize, w: usize, x: u64)
     requires { IdWidth w × (x < 256 ^ w) }
     ensures { out.new ≡ put out.old at (be w x) }
@@ -60,6 +70,7 @@ pub fn put_word(out: &mut [u8], at: usize, w: usize, x: u64)
     if w == 8 {
         put_u64(out, at, x);
     } else {
+        // as: a number that is known to fit, or u64 and usize, which have no From; try_from would hand out an error that cannot be.
         put_u32(out, at, x as u32);
     }
 }
@@ -73,27 +84,27 @@ pub fn put_text(out: &mut [u8], at: usize, text: &[u8]) -> usize
     at + text.len()
 }
 
-// How many decimal digits k has: four at a time, then by the powers of ten.
+// n bytes of s from a place on, or as many as there are.
+pub fn part(s: &[u8], from: usize, n: usize) -> &[u8]
+    ensures { result.now ≡ take n (drop from s.now) }
+{
+    let rest = &s[from.min(s.len())..];
+    &rest[..n.min(rest.len())]
+}
+
+// n bytes of src, or as many as there are; the place behind them.
+pub fn copy_bytes(src: &[u8], from: usize, n: usize, out: &mut [u8], at: usize) -> usize
+    requires { at + n < places }
+    ensures { Wrote out.old out.new at result (take n (drop from src.now)) × (result ≤ at + n) }
+{
+    put_text(out, at, part(src, from, n))
+}
+
+// How many decimal digits k has.
 pub fn count_digits(k: u64) -> usize
     ensures { (result ≡ length (digits k)) × (result ≤ most_digits) }
 {
-    let mut n = 0;
-    let mut left = k;
-    // The number itself says when its digits are counted, so nothing is counted up to.
-    while left >= 10000 {
-        left /= 10000;
-        n += 4;
-    }
-    if left < 10 {
-        return n + 1;
-    }
-    if left < 100 {
-        return n + 2;
-    }
-    if left < 1000 {
-        return n + 3;
-    }
-    n + 4
+    if k == 0 { 1 } else { k.ilog10() as usize + 1 }
 }
 
 // The decimal digits of k, the last first, each straight to its place; the place behind them. Document 02, Point 3: the one promise on digits.
@@ -118,8 +129,8 @@ fn put_made_text(out: &mut [u8], at: usize, text: &[u8], k: u64) -> usize
 {
     put_u8(out, at, b'_');
     let p = put_text(out, at + 1, text);
-    put_u32(out, p, 0x5F6C766E);
-    put_digits(out, p + 4, k)
+    let q = put_text(out, p, b"_lvn");
+    put_digits(out, q, k)
 }
 
 // That name: its type, the length of its text, its text. The length is written behind the text.

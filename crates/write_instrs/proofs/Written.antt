@@ -5,16 +5,16 @@ use mathlib.Core.List.{List, [], ◌∷◌, ◌++◌, map, append_assoc, append-
 use mathlib.Core.Bool.{Bool, true, false, not}
 use native.Mathlib.Omega.{arith}
 use native.Mathlib.Numerals.{add-one}
-use lib.ListN.{length, get_or, take, drop, drop_of_length-le, length-map}
+use lib.ListN.{length, get_or, drop, drop_of_length-le, length-map}
 use lib.Seq.{drop-cons}
 use Rattle.std.specs.Prelude.{Option}
 use Rattle.std.specs.Bool.{then_some}
 use Rattle.record.specs.declared.Shape.{Shape}
 use Rattle.record.specs.declared.Instruction.{Instruction}
 use Rattle.record.specs.Record.{nm, Lit, Instr}
-use Rattle.record.specs.Shape.{targets, shape_of}
+use Rattle.record.specs.Shape.{shape_of}
 use Rattle.record.specs.Write.{be, join, when, index_bytes, literal_bytes, argument_bytes, operand_bytes, instr_bytes}
-use Rattle.record.specs.View.{code_of, instr_of}
+use Rattle.record.specs.View.{code_of, row_of, instr_of}
 use Rattle.write_bytes.specs.Put.{put, Wrote}
 use Rattle.write_bytes.proofs.Wrote.{wrote_join, wrote_last, wrote_number, wrote_append}
 use Rattle.write_instrs.specs.There.{if_there, value_bytes}
@@ -78,28 +78,24 @@ args_wrote xs a b =
 
 -- ---- all that stands behind the code
 pub operands_wrote :
-    {l m₁ m₂ m₃ r : List ℕ} {i p₁ p₂ p₃ p : ℕ} {d c : Option ℕ} {n : ℕ} (sh : Shape) (x : Instruction) →
-    sh ≡ shape_of (code_of x.op) →
+    {l m₁ m₂ m₃ r : List ℕ} {i p₁ p₂ p₃ p : ℕ} {d c : Option ℕ} (sh : Shape) (x : Instruction) →
     d ≡ then_some sh.dest x.dest.0 →
     c ≡ then_some sh.callee x.callee →
-    n ≡ targets sh x.count →
     Wrote l m₁ i p₁ (if_there (be 2) d) →
     Wrote m₁ m₂ p₁ p₂ (value_bytes sh.literal (instr_of x)) →
     Wrote m₂ m₃ p₂ p₃ (if_there (be 2) c) →
-    Wrote m₃ r p₃ p (join (map (be 2) (take n x.blocks))) →
+    Wrote m₃ r p₃ p (join (map (be 2) (row_of x.blocks))) →
     Wrote l r i p (operand_bytes sh (instr_of x))
 unfolding operand_bytes instr_of index_bytes join
-operands_wrote {l} {m₁} {m₂} {m₃} {r} {i} {p₁} {p₂} {p₃} {p} sh x e dest callee many a b c f =
+operands_wrote {l} {m₁} {m₂} {m₃} {r} {i} {p₁} {p₂} {p₃} {p} sh x dest callee a b c f =
     let v = instr_of x in
-    let targets_too : Wrote m₃ r p₃ p (join (map (be 2) (take (targets (shape_of (code_of x.op)) x.count) x.blocks))) =
-    subst (λ (k : ℕ). Wrote m₃ r p₃ p (join (map (be 2) (take k x.blocks)))) (many ∙ ap (λ (t : Shape). targets t x.count) e) f in
     let callee_too : Wrote m₂ m₃ p₂ p₃ (when sh.callee (be 2 x.callee)) =
     subst (Wrote m₂ m₃ p₂ p₃) (ap (if_there (be 2)) callee ∙ there_when (be 2) sh.callee x.callee) c in
     let dest_too : Wrote l m₁ i p₁ (when sh.dest (be 2 x.dest.0)) =
     subst (Wrote l m₁ i p₁) (ap (if_there (be 2)) dest ∙ there_when (be 2) sh.dest x.dest.0) a in
     wrote_append _ _ dest_too
     (subst (Wrote m₁ r p₁ p) (append_assoc (when sh.literal (literal_bytes v.lit)) (when (not sh.literal) (argument_bytes v.args)) _)
-    (wrote_append _ _ b (wrote_append _ _ callee_too (wrote_last _ targets_too))))
+    (wrote_append _ _ b (wrote_append _ _ callee_too (wrote_last _ f))))
 
 pub instr_wrote :
     {l m n r : List ℕ} {i p : ℕ} (w code : ℕ) (sh : Shape) (x : Instruction) →

@@ -56,41 +56,41 @@ fn put_args(out: &mut [u8], at: usize, args: &[u16]) -> usize
     requires { (at + 17 < places) × (length args.now ≤ 8) }
     ensures { Wrote out.old out.new at result (argument_bytes (map nm args.now)) × (result ≤ at + 17) }
 {
+    // as: a number that is known to fit, or u64 and usize, which have no From; try_from would hand out an error that cannot be.
     write_bytes::put_u8(out, at, args.len() as u8);
     put_row(out, at + 1, args)
 }
 
 // The literal, or the arguments where there is none.
 fn put_value(out: &mut [u8], at: usize, literal: bool, i: &Instruction) -> usize
-    requires { (at + 17 < places) × (i.now.count ≤ 8) }
+    requires { at + 17 < places }
     ensures { Wrote out.old out.new at result (value_bytes literal (instr_of i.now)) × (result ≤ at + 17) }
 {
     if literal {
         put_literal(out, at, i.literal)
     } else {
-        put_args(out, at, &i.args[..i.count as usize])
+        put_args(out, at, i.args.as_slice())
     }
 }
 
 // What stands behind the code.
 fn put_operands(out: &mut [u8], at: usize, sh: Shape, i: &Instruction) -> usize
-    requires { (at + longest_operands < places) × ((i.now.count ≤ 8) × (sh ≡ shape_of (code_of i.now.op))) }
+    requires { at + longest_operands < places }
     ensures { Wrote out.old out.new at result (operand_bytes sh (instr_of i.now)) × (result ≤ at + longest_operands) }
 {
     let p = put_two(out, at, sh.dest.then_some(i.dest.0));
     let q = put_value(out, p, sh.literal, i);
     let r = put_two(out, q, sh.callee.then_some(i.callee));
-    let n = read_shapes::targets(sh, i.count as u64);
-    put_row(out, r, &i.blocks[..n as usize])
+    put_row(out, r, i.blocks.as_slice())
 }
 
 // An instruction; w: the bytes of an id.
 pub fn put_instr(out: &mut [u8], at: usize, w: usize, i: Instruction) -> usize
-    requires { (at + longest_instr < places) × (IdWidth w × ((i.id < 256 ^ w) × (i.count ≤ 8))) }
+    requires { (at + longest_instr < places) × (IdWidth w × (i.id < 256 ^ w)) }
     ensures { Wrote out.old out.new at result (instr_bytes w (instr_of i)) × (result ≤ at + longest_instr) }
 {
     let code = codes::code_of(i.op);
     write_bytes::put_word(out, at, w, i.id);
     write_bytes::put_u8(out, at + w, code);
-    put_operands(out, at + w + 1, read_shapes::shape_of(code as u64), &i)
+    put_operands(out, at + w + 1, read_shapes::shape_of(u64::from(code)), &i)
 }

@@ -21,20 +21,12 @@ pub fn put_record_head(out: &mut [u8], version: u8, args: u8, names: u16)
     write_bytes::put_u16(out, 6, names);
 }
 
-// n bytes of s from a place on, or as many as there are.
-fn part(s: &[u8], from: usize, n: usize) -> &[u8]
-    ensures { result.now ≡ take n (drop from s.now) }
-{
-    let rest = &s[from.min(s.len())..];
-    &rest[..n.min(rest.len())]
-}
-
 // The input's names, the bytes from 8 to `end`; the place behind them.
 pub fn copy_names(s: &[u8], out: &mut [u8], end: usize) -> usize
     requires { (8 ≤ end) × (end < places_end) }
     ensures { Wrote out.old out.new 8 result (take (end - 8) (drop 8 s.now)) × (result ≤ end) }
 {
-    write_bytes::put_text(out, 8, part(s, 8, end - 8))
+    write_bytes::copy_bytes(s, 8, end - 8, out, 8)
 }
 
 // ---- made names
@@ -47,15 +39,15 @@ pub struct Names<'a> {
 }
 
 impl<'a> Names<'a> {
-    // The place of the name x, by the table.
+    // x < names_count self.bytes.now is asked by three methods: x is one of a list of plain numbers, and no field.
+    // k < most_made by two, and by two of write_bytes: k counts the made names as they are written, and is no field either.
+    // The place of the name x, by the table, which has one of each name.
     fn place(self, x: u16) -> usize
         requires { x < names_count self.bytes.now }
         ensures { (result ≡ behind (name_end self.entry.bytes.now) 8 x) × (result < places_end) }
     {
-        match self.places.get(x as usize) {
-            Some(p) => *p as usize,
-            None => 0,
-        }
+        // as: a number that is known to fit, or u64 and usize, which have no From; try_from would hand out an error that cannot be.
+        self.places.get(usize::from(x)).map_or(0, |p| *p as usize)
     }
 
     // The name made with K = k of the name x; the place behind it.
@@ -68,7 +60,7 @@ impl<'a> Names<'a> {
         let p = self.place(x);
         let ty = read_fields::byte_or(self.bytes, p) as u8;
         let n = read_fields::byte_or(self.bytes, p + 1) as usize;
-        let text = part(self.bytes, p + 2, n);
+        let text = write_bytes::part(self.bytes, p + 2, n);
         write_bytes::put_made(out, at, ty, text, k)
     }
 

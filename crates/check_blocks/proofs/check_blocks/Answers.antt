@@ -8,10 +8,6 @@ use Rattle.record.specs.Answer.{verdict}
 use Rattle.record.proofs.Following.{handed_on, times_stopped, times_went, times_done}
 use Rattle.check_blocks.proofs.check_blocks.Goals as goal
 
-pub loop-init : goal.loop-init
-loop-init c = let a = c.args in
-    ap (λ n. verdict (times n (λ k. block a.lim a.of.width a.of.names a.of.blocks) a.s.now a.at)) (omega arith)
-
 pub returns-in_err-p : goal.returns-in_err-p
 returns-in_err-p c = let a = c.args in
     let l = c.loop in

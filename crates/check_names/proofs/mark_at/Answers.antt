@@ -14,8 +14,3 @@ returns-then-left-lt2 c = (omega arith, λ f. absurd (omega (arith, f, c.left.en
 pub returns-then-left-n : goal.returns-then-left-n
 unfolding name_end
 returns-then-left-n c = (omega arith, λ f. absurd (omega (arith, f, c.left-2.ensures, c.if-left-n.true, c.byte_or-n.ensures.0)))
-
-pub returns : goal.returns
-returns c = let a = c.args in
-    let n : a.p + 1 + 1 + c.byte_or-n.result - (a.p + 1 + 1) ≡ get_or a.s.now (a.p + 1) 0 = omega (arith, c.byte_or-n.ensures.0) in
-    (c.mark_of.ensures.1, λ f. c.mark_of.ensures.0 ∙ ap (λ n. mark 0 (take n (drop (a.p + 1 + 1) a.s.now))) n)

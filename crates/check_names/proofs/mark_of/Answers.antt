@@ -6,7 +6,7 @@ use Rattle.check_names.proofs.mark_of.Goals as goal
 
 pub loop-b-preserved : goal.loop-b-preserved
 loop-b-preserved c = let w = c.loop-b in
-    record { below = omega arith; same = mark_went c.args.text.now w.b-index w.h (omega arith) ∙ w.invariant.same }
+    record { below = omega arith; same = (rw c.from.ensures (mark_went c.args.text.now w.b-index w.h (omega arith))) ∙ w.invariant.same }
 
 pub returns : goal.returns
 returns c = let w = c.loop-b in

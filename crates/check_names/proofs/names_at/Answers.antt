@@ -6,7 +6,7 @@ use Rattle.record.specs.Decode.{name_end}
 use Rattle.record.proofs.Following.{handed_on}
 use Rattle.record.proofs.Rows.{behind_done}
 use Rattle.check_names.proofs.Laws.{more_seen, names_stopped, names_went, names_done, names_all}
-use Rattle.check_names.proofs.Marks.{none_marked, marked_more, searched_behind, name_searched}
+use Rattle.check_names.proofs.Marks.{none_marked, marked_more, search_count, searched_behind, name_searched}
 use Rattle.check_names.proofs.names_at.Goals as goal
 
 pub loop-i-init : goal.loop-i-init
@@ -21,13 +21,13 @@ loop-i-init c = let a = c.args in
 pub name_at-requires : goal.name_at-requires
 name_at-requires c = let a = c.args in
     let w = c.loop-i in
-    searched_behind a.s.now a.at _ w.p w.seen _ _ c.to_search.ensures w.invariant.place
+    searched_behind a.s.now a.at _ w.p w.seen _ _ (search_count _ _ _ _ c.from.ensures c.to_search.ensures) w.invariant.place
 
 pub returns-in_err-p : goal.returns-in_err-p
 returns-in_err-p c = let w = c.loop-i in
     let a = c.args in
     let s = a.s.now in
-    let searched = name_searched s a.at _ w.p w.seen _ _ c.to_search.ensures a.lim _ w.invariant.marked in
+    let searched = name_searched s a.at _ w.p w.seen _ _ (search_count _ _ _ _ c.from.ensures c.to_search.ensures) a.lim _ w.invariant.marked in
     handed_on c.from_residual.result c.in_err-p.field-0.0 c.from_residual.ensures.1
     ∙ names_stopped a.lim s a.at a.count w.i w.p (omega arith) w.invariant.place _
     (searched c.mark_at-h.ensures.1 c.name_at.ensures ∙ c.in_err-p.was)
@@ -37,7 +37,7 @@ pub loop-i-preserved : goal.loop-i-preserved
 loop-i-preserved c = let w = c.loop-i in
     let a = c.args in
     let s = a.s.now in
-    let searched = name_searched s a.at _ w.p w.seen _ _ c.to_search.ensures a.lim _ w.invariant.marked in
+    let searched = name_searched s a.at _ w.p w.seen _ _ (search_count _ _ _ _ c.from.ensures c.to_search.ensures) a.lim _ w.invariant.marked in
     let next =
     names_went a.lim s a.at a.count w.i w.p (omega arith) w.invariant.place _
     (searched c.mark_at-h.ensures.1 c.name_at.ensures ∙ c.in_ok-p.was) in

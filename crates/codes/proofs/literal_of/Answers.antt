@@ -24,9 +24,6 @@ unfolding literal_of
 returns-in-1 c = let a = c.args in
     lit_same (sym c.in-1.is) (bool_bits a.kind a.bits c.in-1.is c.requires)
 
-pub returns-in-2 : goal.returns-in-2
-returns-in-2 c = c.float_literal.ensures ∙ lit_same (sym c.in-2.is) refl
-
 pub returns-in_default : goal.returns-in_default
 unfolding literal_of
 returns-in_default c = let e : c.args.kind ≡ 3 = omega (arith, kind_most c.requires) in

@@ -26,5 +26,6 @@ slice_bounds-g-end-2 c = sym
 
 pub run_opened-requires : goal.run_opened-requires
 run_opened-requires c = let head = c.layout_of-head.ensures in
-    opened _ c.requires (width_is _ c.requires _ head.0) (types_first _ c.requires _ head.0 _ head.2)
-    (places_first _ c.requires _ head.0 _ c.fill_blocks.ensures.1)
+    rw c.from.ensures
+    (opened _ c.requires (width_is _ c.requires _ head.0) (types_first _ c.requires _ head.0 _ head.2)
+    (places_first _ c.requires _ head.0 _ c.fill_blocks.ensures.1))

@@ -2,8 +2,11 @@
 use Prim.Native.Nat.{ℕ, ◌*◌, ◌^◌, ◌<◌}
 use mathlib.Core.Path.{sym, ap, ◌∙◌, subst}
 use native.Mathlib.Omega.{arith}
+use borrow.Author.Rules.{rules}
 use lib.ListN.{length}
 use Rattle.record.specs.Decode.{instr_end}
+use Rattle.engine_house.specs.Reads.{IsSet}
+use Rattle.engine_house.proofs.Again.{set_again}
 use Rattle.engine_quiet.specs.declared.Over.TheVariants.{Halt, Unfit}
 use Rattle.engine_events.specs.declared.Turn.{Turn}
 use Rattle.engine_events.specs.Replies.{Answered}
@@ -15,17 +18,17 @@ use Rattle.engine_events.proofs.answered.Goals as goal
 
 pub returns-then-t-eq0 : goal.returns-then-t-eq0
 returns-then-t-eq0 c = let a = c.args in
-    subst (Answered a.g.now a.cells.now a.cells.now a.event a.t) (sym c.ended.ensures)
-    (answered_none a.g.now a.cells.now a.event a.t c.requires.going c.requires.loud c.requires.room c.if-t-eq0.true)
+    subst (Answered a.g.now a.cells.now a.cells.now a.event a.p a.t) (sym c.ended.ensures)
+    (answered_none a.g.now a.cells.now a.event a.p a.t c.requires.going c.requires.loud c.requires.room c.if-t-eq0.true)
 
-pub returns-then-kind : goal.returns-then-kind
-returns-then-kind c = let a = c.args in
-    let end = c.answer_end in
-    let kind = c.byte_or-kind in
-    let e = c.ended-then-kind.ensures ∙ ap (λ (u : Turn). over_turn Halt a.event u.answer u.answers u) c.taken-u.ensures in
-    subst (Answered a.g.now a.cells.now a.cells.now a.event a.t) (sym e)
-    (answered_halt a.g.now a.cells.now a.event a.t c.requires.going c.requires.loud c.requires.room
-    (omega (arith, c.if-t-eq0.false)) kind.result end.result kind.ensures.0 end.ensures.0 end.ensures.1 c.if-kind.true)
+pub returns-then-eq : goal.returns-then-eq
+returns-then-eq c = let a = c.args in
+    let x = c.answer_again-answer in
+    let end = c.end in
+    let e = c.ended-then-eq.ensures ∙ ap (λ (u : Turn). over_turn Halt a.event u.answer u.answers u) c.taken-u.ensures in
+    subst (Answered a.g.now a.cells.now a.cells.now a.event a.p a.t) (sym e)
+    (answered_halt a.g.now a.cells.now a.event a.p a.t c.requires.going c.requires.loud c.requires.room
+    (omega (arith, c.if-t-eq0.false)) x.result x.ensures end.result end.ensures.0 end.ensures.1 (search rules))
 
 pub overflow_add-at : goal.overflow_add-at
 overflow_add-at c = let a = c.args in
@@ -49,21 +52,23 @@ takes-requires-clause-operands c = let a = c.args in
 
 pub takes-requires-clause-dest : goal.takes-requires-clause-dest
 takes-requires-clause-dest c = let r = c.requires in
-    dest_cell r.loud c.args.g.now.w r.going.grounded.width c.byte_or-code.result c.byte_or-code.ensures.0 r.going.grounded.names
+    dest_cell r.loud c.args.g.now.w r.going.grounded.width c.byte_or-code.result c.byte_or-code.ensures.0 r.going.grounded.laid.names
 
-pub takes-requires-clause-known : goal.takes-requires-clause-known
-takes-requires-clause-known c = let a = c.args in
-    sure_first a.g.now.list.now a.t.answer a.t.answers (omega (arith, c.if-t-eq0.false)) c.requires.going.ready.sure
+pub takes-requires-clause-set : goal.takes-requires-clause-set
+takes-requires-clause-set c = let a = c.args in
+    subst IsSet (sym c.answer_again-answer.ensures)
+    (set_again a.g.now.list.now a.t.answer
+    (sure_first a.g.now.list.now a.t.answer a.t.answers (omega (arith, c.if-t-eq0.false)) c.requires.going.ready.sure))
 
 pub returns-then-not-takes : goal.returns-then-not-takes
 returns-then-not-takes c = let a = c.args in
-    let end = c.answer_end in
-    let kind = c.byte_or-kind in
+    let x = c.answer_again-answer in
+    let end = c.end in
     let code = c.byte_or-code in
     let e = c.ended-then-not-takes.ensures ∙ ap (λ (u : Turn). over_turn Unfit a.event u.answer u.answers u) c.taken-u.ensures in
-    subst (Answered a.g.now a.cells.now _ a.event a.t) (sym e)
-    (answered_unfit a.g.now a.cells.now a.event a.t c.requires.going c.requires.loud c.requires.room
-    (omega (arith, c.if-t-eq0.false)) kind.result end.result kind.ensures.0 end.ensures.0 end.ensures.1
+    subst (Answered a.g.now a.cells.now _ a.event a.p a.t) (sym e)
+    (answered_unfit a.g.now a.cells.now a.event a.p a.t c.requires.going c.requires.loud c.requires.room
+    (omega (arith, c.if-t-eq0.false)) x.result x.ensures end.result end.ensures.0 end.ensures.1
     a.g.now.w code.result c.requires.going.grounded.width code.ensures.0 c.takes.result c.takes.ensures.0 _ c.if-not-takes.true)
 
 pub instr_end-requires : goal.instr_end-requires
@@ -71,27 +76,23 @@ instr_end-requires c = let a = c.args in
     let m : length a.g.now.s.now * 1 < 2 ^ 63 = omega arith in
     let n = near_by c.requires.loud a.g.now.w c.requires.going.grounded.width m in (n.0, omega (arith, n.1))
 
-pub onward-requires-clause-facing : goal.onward-requires-clause-facing
-onward-requires-clause-facing c = let h = c.requires.going in
-    record { grounded = h.grounded; standing = h.ready.standing; some = h.some }
-
 pub onward-requires-clause-next : goal.onward-requires-clause-next
 onward-requires-clause-next c = let a = c.args in
-    c.instr_end.ensures.0 ∙ ap (λ (w : ℕ). instr_end w a.g.now.s.now a.t.spot.at) c.requires.going.grounded.width
+    c.instr_end.ensures.0 ∙ ap (λ (w : ℕ). instr_end w a.g.now.s.now a.p.at) c.requires.going.grounded.width
 
 pub returns : goal.returns
 returns c = let a = c.args in
-    let end = c.answer_end in
-    let kind = c.byte_or-kind in
+    let x = c.answer_again-answer in
+    let end = c.end in
     let code = c.byte_or-code in
     let next = c.instr_end in
     subst
-    (λ (u : Turn). Answered a.g.now a.cells.now c.takes.new.cells a.event a.t
+    (λ (u : Turn). Answered a.g.now a.cells.now c.takes.new.cells a.event a.p a.t
     (record { spot = c.onward.result; more = u.more; answer = u.answer; answers = u.answers; event = a.event; tells = u.tells }))
     (sym c.taken-u.ensures)
-    (answered_goes a.g.now a.cells.now a.event a.t c.requires.going c.requires.loud c.requires.room
-    (omega (arith, c.if-t-eq0.false)) kind.result end.result kind.ensures.0 end.ensures.0 end.ensures.1
+    (answered_goes a.g.now a.cells.now a.event a.p a.t c.requires.going c.requires.loud c.requires.room
+    (omega (arith, c.if-t-eq0.false)) x.result x.ensures end.result end.ensures.0 end.ensures.1
     a.g.now.w code.result c.requires.going.grounded.width code.ensures.0 c.takes.result c.takes.ensures.0
-    _ c.onward.result next.result c.if-not-takes.false c.if-kind.false
-    (next.ensures.0 ∙ ap (λ (x : ℕ). instr_end x a.g.now.s.now a.t.spot.at) c.requires.going.grounded.width)
+    _ c.onward.result next.result c.if-not-takes.false (search rules)
+    (next.ensures.0 ∙ ap (λ (x : ℕ). instr_end x a.g.now.s.now a.p.at) c.requires.going.grounded.width)
     c.takes.ensures.1 c.onward.ensures)

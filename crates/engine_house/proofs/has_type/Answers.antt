@@ -1,15 +1,17 @@
 -- `engine_house::has_type` meets its contract: by the type byte of the cell.
-use mathlib.Core.Path.{ap, ◌∙◌}
-use mathlib.Core.Bool.{Bool, ◌&&◌}
+use mathlib.Core.Path.{◌∙◌}
 use native.Mathlib.Omega.{arith}
-use lib.Dec.{eqb}
-use Rattle.engine_house.proofs.Values.{of_low, of_char, of_held, of_none, of_pointer}
+use borrow.Author.Tests.{ne_eqb}
+use Rattle.engine_house.proofs.Values.{of_low, char_typed, char_other, of_held, of_none, of_pointer}
 use Rattle.engine_house.proofs.has_type.Goals as goal
 
-pub returns-in-3 : goal.returns-in-3
-returns-in-3 c = let a = c.args in
-    ap (λ (b : Bool). eqb a.t 3 && b) c.scalar.ensures ∙
-    of_char a.t a.c.word a.c.kind a.c.offset c.in-3.is
+pub returns-then-t-eq-CHAR : goal.returns-then-t-eq-CHAR
+returns-then-t-eq-CHAR c = let a = c.args in
+    c.scalar.ensures ∙ char_typed a.t a.c.word a.c.kind a.c.offset c.in-3.is c.if-t-eq-CHAR.true
+
+pub returns-else-t-eq-CHAR : goal.returns-else-t-eq-CHAR
+returns-else-t-eq-CHAR c = let a = c.args in
+    ne_eqb a.t 3 c.if-t-eq-CHAR.false ∙ char_other a.t a.c.word a.c.kind a.c.offset c.in-3.is c.if-t-eq-CHAR.false
 
 pub returns-in-4 : goal.returns-in-4
 returns-in-4 c = let a = c.args in

@@ -16,10 +16,10 @@ unfolding KindAs
 returns-in_err-ok c = let (k, e) = was_err _ c.in_err-ok.ensures.value in
     let there = sym c.field_at.ensures ∙ ap res (was_ok _ _ c.in_ok-word.ensures.value) in
     rw c.from_residual-in_err-ok.ensures
-    (read_no _ _ _ (word_unfit _ _ _ c.requires _ _ _ there (sym c.literal_test.ensures ∙ e)), tt)
+    (read_no _ _ _ (word_unfit _ _ _ c.requires _ _ _ there (sym (rw c.from.ensures at c.literal_test.ensures) ∙ e)), tt)
 
 pub returns : goal.returns
 unfolding KindAs
 returns c = let there = sym c.field_at.ensures ∙ ap res (was_ok _ _ c.in_ok-word.ensures.value) in
     let passes = was_ok _ _ c.in_ok-ok.ensures.value in
-    (read_is _ _ _ (word_read _ _ _ c.requires _ _ there (sym c.literal_test.ensures ∙ passes)), refl)
+    (read_is _ _ _ (word_read _ _ _ c.requires _ _ there (sym (rw c.from.ensures at c.literal_test.ensures) ∙ passes)), refl)

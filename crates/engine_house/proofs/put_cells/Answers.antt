@@ -4,10 +4,10 @@ use Rattle.engine_house.proofs.Written.{held_less, held_none, held_all}
 use Rattle.engine_house.proofs.put_cells.Goals as goal
 
 pub loop-x-init : goal.loop-x-init
-loop-x-init c = let a = c.args in record { near = omega arith; rest = held_all a.cells.now a.n }
+loop-x-init g c = let a = c.args in record { near = omega arith; rest = held_all a.cells.now a.n }
 
 pub loop-x-preserved : goal.loop-x-preserved
-loop-x-preserved c = let l = c.loop-x in
+loop-x-preserved g c = let l = c.loop-x in
     let a = c.args in
     record {
       near = omega (arith, c.put_held-q.ensures.1, l.invariant.near);
@@ -15,6 +15,6 @@ loop-x-preserved c = let l = c.loop-x in
     }
 
 pub returns : goal.returns
-returns c = let l = c.loop-x in
+returns g c = let l = c.loop-x in
     let a = c.args in
     (held_none a.cells.now l.x a.n c.loop-x-test.false l.invariant.rest, omega (arith, l.invariant.near, l.auto.x-end))

@@ -5,4 +5,4 @@ use Rattle.engine_house.proofs.put_store.Goals as goal
 
 pub returns : goal.returns
 unfolding store_bytes
-returns c = form_written _ c.put_cells-end.ensures.0 c.put_u8.ensures c.put_u32.ensures
+returns g c = form_written _ c.put_cells-end.ensures.0 c.put_u8.ensures c.put_u32.ensures

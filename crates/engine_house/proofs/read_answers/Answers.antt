@@ -20,7 +20,7 @@ returns-in_err-p c = let l = c.loop-p in
 pub loop-p-smaller : goal.loop-p-smaller
 loop-p-smaller c = let l = c.loop-p in
     let h = c.loop-p-test.true in
-    let m = list_moved c.args.s.now l.p l.n l.invariant.rest h l.invariant.before _ c.answer_at.ensures _ _ c.in_ok-p.was in
+    let m = list_moved c.args.s.now l.p l.n l.invariant.rest h l.invariant.before _ c.answer_at.ensures _ c.in_ok-p.was in
     omega (arith, m, h)
 
 pub loop-p-preserved : goal.loop-p-preserved
@@ -28,11 +28,11 @@ loop-p-preserved c = let l = c.loop-p in
     let s = c.args.s.now in
     let h = c.loop-p-test.true in
     let i = l.invariant in
-    let m = list_moved s l.p l.n i.rest h i.before _ c.answer_at.ensures _ _ c.in_ok-p.was in
+    let m = list_moved s l.p l.n i.rest h i.before _ c.answer_at.ensures _ c.in_ok-p.was in
     record {
       before = omega (arith, m, i.before);
       few = omega (arith, h, i.before);
-      rest = list_went s l.p l.n i.rest h i.before _ c.answer_at.ensures _ _ c.in_ok-p.was;
+      rest = list_went s l.p l.n i.rest h i.before _ c.answer_at.ensures _ c.in_ok-p.was;
     }
 
 pub returns : goal.returns

@@ -1,33 +1,34 @@
 -- `engine_house::stored_at` meets its contract: the first byte, the value behind it, and its type.
-use mathlib.Core.Path.{sym, ◌∙◌}
-use Rattle.engine_house.proofs.Items.{stored_past, stored_nothing, stored_untyped, no_stored, is_nothing, stored_fit, stored_unfit, stored_missing}
+use mathlib.Core.Path.{refl, sym, ◌∙◌}
+use native.Mathlib.Omega.{arith}
+use borrow.Author.Tests.{ltb-true, ltb-false}
+use Rattle.std.proofs.lemmas.Grind.{get_or_default_zero}
+use Rattle.engine_house.proofs.Items.{stored_past, stored_nothing, no_stored, is_nothing, stored_none, stored_some}
 use Rattle.engine_house.proofs.stored_at.Goals as goal
 
-pub returns-then-at-s : goal.returns-then-at-s
-returns-then-at-s c = no_stored _ _ (stored_past _ _ c.if-at-s.true)
+pub returns-in_err-kind : goal.returns-in_err-kind
+returns-in_err-kind c = rw c.from_residual.ensures (no_stored _ _ (stored_past _ _ (ltb-false _ _ (sym c.in_err-kind.ensures.lookup.0))))
 
 pub returns-then-kind : goal.returns-then-kind
-returns-then-kind c = rw c.byte_item.ensures
-    (is_nothing _ _ _ _ c.if-kind.true (stored_nothing _ _ c.if-at-s.false c.if-kind.true))
+returns-then-kind c = let l = c.in_ok-kind.ensures.lookup in
+    let there = ltb-true _ _ (sym l.0) in
+    let is = l.1 ∙ get_or_default_zero _ _ _ there in
+    is_nothing _ _ _ _ refl (stored_nothing c.args.s.now c.args.at there (sym is ∙ c.if-kind.true))
 
-pub returns-then-not-value_type : goal.returns-then-not-value_type
-returns-then-not-value_type c = no_stored _ _
-    (stored_untyped _ _ c.if-at-s.false c.if-kind.false (sym c.value_type.ensures ∙ c.if-not-value_type.true))
+pub overflow_add-at : goal.overflow_add-at
+overflow_add-at c = omega (arith, ltb-true _ _ (sym c.in_ok-kind.ensures.lookup.0))
 
 pub returns-in_err-item : goal.returns-in_err-item
-returns-in_err-item c = rw c.from_residual.ensures
-    (stored_missing _ _ c.if-at-s.false c.if-kind.false
-    (sym c.value_type.ensures ∙ c.if-not-value_type.false) _ _
-    c.value_behind.ensures.0 c.in_err-item.was)
+returns-in_err-item c = let l = c.in_ok-kind.ensures.lookup in
+    let there = ltb-true _ _ (sym l.0) in
+    let is = l.1 ∙ get_or_default_zero _ _ _ there in
+    rw c.from_residual-in_err-item.ensures
+    (stored_none c.args.s.now c.args.at there _ is c.if-kind.false _ _ c.value_behind.ensures c.in_err-item.was)
 
-pub returns-then-has_type : goal.returns-then-has_type
-returns-then-has_type c = stored_fit _ _ c.if-at-s.false c.if-kind.false
-    (sym c.value_type.ensures ∙ c.if-not-value_type.false) _ _
-    c.value_behind.ensures.0 _ _ c.in_ok-item.was c.value_behind.ensures.1
-    (sym c.has_type.ensures ∙ c.if-has_type.true)
-
-pub returns-else-has_type : goal.returns-else-has_type
-returns-else-has_type c = stored_unfit _ _ c.if-at-s.false c.if-kind.false
-    (sym c.value_type.ensures ∙ c.if-not-value_type.false) _ _
-    c.value_behind.ensures.0 _ _ c.in_ok-item.was
-    (sym c.has_type.ensures ∙ c.if-has_type.false)
+pub returns : goal.returns
+returns c = let l = c.in_ok-kind.ensures.lookup in
+    let there = ltb-true _ _ (sym l.0) in
+    let is = l.1 ∙ get_or_default_zero _ _ _ there in
+    let i = c.in_ok-item.item in
+    rw (c.then_some.ensures, c.has_type.ensures)
+    (stored_some c.args.s.now c.args.at there _ is c.if-kind.false _ _ c.value_behind.ensures i.cell i.end c.in_ok-item.was)

@@ -9,11 +9,11 @@ use Rattle.engine_pure.proofs.Works.{works_none, works_some}
 use Rattle.engine_pure.proofs.operate.Goals as goal
 
 pub returns-in_err-c : goal.returns-in_err-c
-returns-in_err-c c = let p = err_from_is_err_and c.from_residual.result c.from_residual.ensures.1 in
+returns-in_err-c g c = let p = err_from_is_err_and c.from_residual.result c.from_residual.ensures.1 in
     rw (p.1, p.2) (works_none _ _ _ _ c.in_err-c.ensures)
 
 pub returns : goal.returns
 unfolding index_from
-returns c = works_some _ _ _ _ _ c.in_ok-c.ensures
+returns g c = works_some _ _ _ _ _ c.in_ok-c.ensures
     (c.set_cell.ensures ∙
     (λ j. upd NameIx-discrete (store_in c.args.cells.now) (nm (c.number_of.ensures.0 j)) (cell_holds c.in_ok-c.c)))

@@ -1,5 +1,5 @@
 -- `engine_quiet::branch` meets its contract.
-use mathlib.Core.Path.{sym, ap, ◌∙◌}
+use mathlib.Core.Path.{refl, sym, ap, ◌∙◌}
 use Rattle.std.proofs.Common.{Some}
 use Rattle.engine_quiet.proofs.Branching.{branch_lacks, branch_first, branch_second}
 use Rattle.engine_quiet.proofs.branch.Goals as goal
@@ -21,4 +21,4 @@ returns-in-Some-false c = let a = c.args in
 pub returns-in-None : goal.returns-in-None
 returns-in-None c = let a = c.args in
     branch_lacks a.g.now a.cells.now a.p c.requires.facing c.requires.coded
-    _ c.behind_code-row.ensures.place _ c.be.ensures.0 _ c.in-None.ensures c.over.ensures
+    _ c.behind_code-row.ensures.place _ c.be.ensures.0 _ c.in-None.ensures refl

@@ -1,11 +1,12 @@
 -- `engine_quiet::quiet_step` meets its contract.
 use native.Mathlib.Omega.{arith}
+use borrow.Author.Rules.{rules}
 use Rattle.engine_quiet.proofs.Spots.{quiet_left, const_next, const_lies, const_done, jump_done, nop_next, nop_done}
 use Rattle.engine_quiet.proofs.quiet_step.Goals as goal
 
 pub constant-requires : goal.constant-requires
 constant-requires c = let r = c.requires in
-    const_lies r.facing _ c.behind_code-at.ensures.place r.coded c.in-0.is
+    (search rules, const_lies r.facing _ c.behind_code-at.ensures.place r.coded c.in-0.is)
 
 pub onward-requires-clause-next : goal.onward-requires-clause-next
 onward-requires-clause-next c = let r = c.requires in

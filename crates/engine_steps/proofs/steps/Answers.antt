@@ -1,24 +1,24 @@
 -- `engine_steps::steps` meets its contract: each turn is one step more.
-use Prim.Native.Nat.{ℕ, ◌+◌}
-use mathlib.Core.Path.{◌≡◌, sym, ap, ◌∙◌}
+use Prim.Native.Nat.{ℕ}
+use mathlib.Core.Path.{sym, ap, ◌∙◌}
 use mathlib.Core.Bool.{not, ◌&&◌}
 use native.Mathlib.Omega.{arith}
-use Rattle.engine_quiet.specs.Spot.{quiet, code_at}
+use Rattle.engine_quiet.specs.Spot.{quiet}
 use Rattle.engine_quiet.proofs.Bodies.{code_inside}
-use Rattle.engine_steps.proofs.Came.{stands, coded, upto_nothing, upto_step}
+use Rattle.engine_steps.proofs.Came.{stands, faces, coded, upto_nothing, upto_step}
 use Rattle.engine_steps.proofs.steps.Goals as goal
 
 pub loop-t-init : goal.loop-t-init
 loop-t-init c = let a = c.args in upto_nothing a.g.now a.cells.now a.out.now a.t c.requires.ready c.requires.fit
 
-pub overflow_add-t : goal.overflow_add-t
-overflow_add-t c =
-    omega (arith, code_inside (stands c.requires.grounded c.loop-t.invariant.ready c.loop-t-test.true))
+pub overflow_add-p : goal.overflow_add-p
+overflow_add-p c = omega (arith, code_inside (faces (stands c.requires.grounded c.loop-t.invariant.ready c.in-Ok.is)))
 
 pub loop-t-preserved : goal.loop-t-preserved
 loop-t-preserved c = let a = c.args in
     let l = c.loop-t in
-    let e = coded l.t.spot.at c.requires.grounded c.byte_or-code.ensures.0 in
+    let p = c.in-Ok.p in
+    let e = coded p.at c.requires.grounded c.byte_or-code.ensures.0 in
     let went = sym (ap (λ (k : ℕ). not l.t.tells && not (quiet k)) e) ∙ sym c.waits.ensures ∙ c.if-waits.false in
-    upto_step a.g.now a.cells.now l.cells _ a.out.now l.out _ a.t l.t _ l.invariant c.loop-t-test.true c.if-t-gt0.true
+    upto_step a.g.now a.cells.now l.cells _ a.out.now l.out _ a.t l.t _ p l.invariant c.in-Ok.is (omega (arith, c.if-t-eq0.false))
     c.step.ensures.0 went c.step.ensures.1

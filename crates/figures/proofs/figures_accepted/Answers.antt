@@ -36,11 +36,8 @@ pub figures_typed-requires : goal.figures_typed-requires
 figures_typed-requires c = let p = c.requires in
     let head = c.layout_of-layout.ensures in (
       record {
-        opened = record {
-          reads = accepted_reads _ p _ head.0 head.1;
-          layout = head.0;
-          types = types_first _ p _ head.0 _ head.2;
-        };
+        reads = accepted_reads _ p _ head.0 head.1;
+        types = rw c.from.ensures (types_first _ p _ head.0 _ head.2);
         places = placed_first _ p _ head.0 _ head.3;
       },
       omega (arith, count_at _ _ head.0, c.if-each-layout.false),

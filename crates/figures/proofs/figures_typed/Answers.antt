@@ -1,17 +1,17 @@
--- `figures::figures_typed` meets its contract: each table has room for the saves of all blocks.
+-- `figures::figures_typed` meets its contract: a table is long enough for the saves of all blocks, and what is noted over it is the answer.
+use mathlib.Core.Path.{sym, ◌∙◌}
 use native.Mathlib.Omega.{arith}
 use Rattle.record.proofs.Again.{few_blocks}
-use Rattle.rewrite.proofs.Known.{blocks_count}
 use Rattle.figures.proofs.figures_typed.Goals as goal
 
-pub figures_noting-requires : goal.figures_noting-requires
-figures_noting-requires c = let p = c.requires.0 in
-    (p, (omega (arith, blocks_count p.opened.reads p.opened.layout p.opened.types, c.if-src-le1.true), (omega arith, c.requires.1)))
+pub with_table-requires-clause-few : goal.with_table-requires-clause-few
+with_table-requires-clause-few c = omega (arith, c.be.ensures.0, few_blocks c.requires.0.reads)
 
-pub figures_noting-requires-then-src-le4 : goal.figures_noting-requires-then-src-le4
-figures_noting-requires-then-src-le4 c = let p = c.requires.0 in
-    (p, (omega (arith, blocks_count p.opened.reads p.opened.layout p.opened.types, c.if-src-le4.true), (omega arith, c.requires.1)))
+pub returns : goal.returns
+returns c = let h = c.with_table.ensures.4.1 in
+    let e = rw h.0 at h.1.1 in
+    (e.0, sym h.1.0 ∙ e.1)
 
-pub figures_noting-requires-else-src-le4 : goal.figures_noting-requires-else-src-le4
-figures_noting-requires-else-src-le4 c = let p = c.requires.0 in
-    (p, (omega (arith, few_blocks p.opened.reads), (omega arith, c.requires.1)))
+pub with_table-requires-clause-callable : goal.with_table-requires-clause-callable
+with_table-requires-clause-callable c = let p = c.requires in
+    λ names e many same. (p.0, (rw c.be.ensures.0 at many, rw same p.1))

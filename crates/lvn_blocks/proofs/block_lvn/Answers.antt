@@ -7,7 +7,7 @@ use Rattle.lvn_blocks.proofs.block_lvn.Goals as goal
 
 pub body_lvn-end-requires : goal.body_lvn-end-requires
 body_lvn-end-requires c = let n = c.be-n in
-    body_asks (state_of c.restart.new.self) n.result n.ensures.0 c.requires c.restart.ensures
+    (omega arith, body_asks (state_of c.restart.new.self) n.result n.ensures.0 c.requires c.restart.ensures)
 
 pub overflow_sub-saves : goal.overflow_sub-saves
 overflow_sub-saves c = let a = c.args in

@@ -8,16 +8,16 @@ use Rattle.lvn_blocks.proofs.Turned.{going_all, going_none, going_less, asks_one
 use Rattle.lvn_blocks.proofs.body_lvn.Goals as goal
 
 pub loop-init : goal.loop-init
-loop-init c = let a = c.args in
+loop-init g c = let a = c.args in
     let z : a.count - 0 ≡ a.count = omega arith in
-    (subst (Asks a.src.now.layout a.src.now.reads.now (state_of a.st.now) a.from) (sym z) c.requires, going_all z)
+    (subst (Asks g.row.M g.row.N a.src.now.layout a.src.now.reads.now (state_of a.st.now) a.from) (sym z) c.requires, going_all z)
 
 pub turn_once-at-requires : goal.turn_once-at-requires
-turn_once-at-requires c = let l = c.loop in
-    asks_one (c.args.count - l.counter) (omega arith) l.invariant.0
+turn_once-at-requires g c = let l = c.loop in
+    (omega arith, asks_one (c.args.count - l.counter) (omega arith) l.invariant.0)
 
 pub loop-preserved : goal.loop-preserved
-loop-preserved c = let l = c.loop in
+loop-preserved g c = let l = c.loop in
     let d = c.turn_once-at in
     let n = c.args.count - l.counter in (
       asks_less n (omega arith) l.invariant.0 d.ensures _ (omega arith),
@@ -25,5 +25,5 @@ loop-preserved c = let l = c.loop in
     )
 
 pub returns : goal.returns
-returns c = let l = c.loop in
+returns g c = let l = c.loop in
     going_none (state_of l.st) (c.args.count - l.counter) (omega arith) l.invariant.1

@@ -7,6 +7,6 @@ use Rattle.lvn_blocks.proofs.Turned.{Going}
 use Rattle.lvn_blocks.proofs.body_lvn.Given as goal
 
 abbrev pub invariant-loop : goal.invariant-loop
-invariant-loop l = Asks l.src.layout l.src.reads.now (state_of l.st) l.at (l.count - l.counter) ×
+invariant-loop g l = Asks g.row.M g.row.N l.src.layout l.src.reads.now (state_of l.st) l.at (l.count - l.counter) ×
     Going l.src.layout l.src.reads.now (type_in l.src.types.now) l.initial.at (state_of l.initial.st) l.count l.initial.names l.initial.out
     l.at (state_of l.st) (l.count - l.counter) l.names l.out

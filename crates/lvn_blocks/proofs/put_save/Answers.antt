@@ -8,7 +8,7 @@ use Rattle.lvn_blocks.proofs.put_save.Goals as goal
 
 pub put_instr-requires : goal.put_instr-requires
 put_instr-requires c = let e = c.save_instr.ensures in
-    (omega (arith, c.requires.0), (c.requires.1.0, (subst (λ (n : ℕ). n < 256 ^ c.args.w) (sym e.1.0) c.requires.1.1, e.1.1)))
+    (omega (arith, c.requires.0), (c.requires.1.0, (subst (λ (n : ℕ). n < 256 ^ c.args.w) (sym e.1) c.requires.1.1)))
 
 pub returns-in-Some : goal.returns-in-Some
 returns-in-Some c = let a = c.args in

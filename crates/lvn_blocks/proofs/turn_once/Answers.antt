@@ -15,20 +15,20 @@ use Rattle.lvn_blocks.proofs.Turned.{lvn_id, turned, asks_passes}
 use Rattle.lvn_blocks.proofs.turn_once.Goals as goal
 
 pub read_instr-g-requires : goal.read_instr-g-requires
-read_instr-g-requires c = let src = c.args.src.now in
+read_instr-g-requires _ c = let src = c.args.src.now in
     let p = c.requires in
     let ok = (asks_passes 1 (omega arith) p).ok in
     (omega (arith, p.reads), (p.width, instr_readable (instr_from src.layout.width src.reads.now c.args.at.p) ok))
 
 pub instr_lvn-e-requires : goal.instr_lvn-e-requires
-instr_lvn-e-requires c = let p = c.requires in
+instr_lvn-e-requires _ c = let p = c.requires in
     let ok = (asks_passes 1 (omega arith) p).ok in
     let again = c.read_instr-g.ensures in
-    (ready ok again, (named ok again p.names (omega arith), (omega (arith, p.numbers), omega (arith, p.made))))
+    (omega arith, (ready ok again, (named ok again p.names p.some, (omega (arith, p.numbers), (omega (arith, p.made), p.maps)))))
 
 pub put_lines-q-requires : goal.put_lines-q-requires
 unfolding instr_of
-put_lines-q-requires c = let src = c.args.src.now in
+put_lines-q-requires _ c = let src = c.args.src.now in
     let w = src.layout.width in
     let p = c.requires in
     let g = c.read_instr-g in
@@ -38,18 +38,18 @@ put_lines-q-requires c = let src = c.args.src.now in
     let i = instr_from w src.reads.now c.args.at.p in
     let k : g.result.instr.id ≡ i.id = ap (λ (x : Instr). x.id) g.ensures.instr in
     let d : e.result.instr.id ≡ (instr_lvn src.layout.names ty st i).instr.id =
-    ap (λ (x : Emitted). x.instr.id) e.ensures.0 ∙ ap (λ (x : Instr). (instr_lvn src.layout.names ty st x).instr.id) g.ensures.instr in
+    ap (λ (x : Emitted). x.instr.id) e.ensures ∙ ap (λ (x : Instr). (instr_lvn src.layout.names ty st x).instr.id) g.ensures.instr in
     let id : e.result.instr.id < 256 ^ w =
     subst (λ (n : ℕ). n < 256 ^ w) (sym d)
     (lvn_id ty st i (asks_passes 1 (omega arith) p).ok (256 ^ w) (subst (λ (n : ℕ). n < 256 ^ w) k g.ensures.id)) in
-    (omega (arith, p.writes), (p.width, (id, e.ensures.1)))
+    (omega (arith, p.writes), (p.width, id))
 
 pub returns : goal.returns
-returns c = let src = c.args.src.now in
+returns _ c = let src = c.args.src.now in
     let g = c.read_instr-g in
     let e = c.instr_lvn-e in
     let o = c.put_lines-q.ensures in
     let m = saved_by (saves_of e.result.made (instr_of e.result.instr)) in
-    turned src.layout (type_in src.types.now) c.args.at g.result (state_of c.args.st.now) e.new.st e.result
-    (asks_passes 1 (omega arith) c.requires).ok g.ensures e.ensures.0
+    turned src.layout (type_in src.types.now) c.args.at g.result (state_of c.args.st.now) (state_of e.new.st) e.result
+    (asks_passes 1 (omega arith) c.requires).ok g.ensures e.ensures
     (c.note_save.ensures ∙ ap (λ (k : ℕ). put c.args.names.now k m) c.made-k.ensures) o.0 o.1

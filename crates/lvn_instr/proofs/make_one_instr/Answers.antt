@@ -9,6 +9,6 @@ use Rattle.lvn_instr.proofs.make_one_instr.Goals as goal
 
 pub returns : goal.returns
 unfolding instr_of
-returns c = let a = c.args in
+returns _ c = let a = c.args in
     let e = c.one_instr.ensures in
-    (e.0 ∙ ap (λ (x : NameIx). make_val_instr (instr_of a.i.now) (code1 a.o) (x ∷ [])) c.home.ensures, e.1.1)
+    (e.0 ∙ ap (λ (x : NameIx). make_val_instr (instr_of a.i.now) (code1 a.o) (x ∷ [])) c.home.ensures)

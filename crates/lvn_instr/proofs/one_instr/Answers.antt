@@ -1,27 +1,24 @@
--- `lvn_instr::one_instr` meets its contract: field by field.
-use mathlib.Core.List.{[], ◌∷◌}
-use mathlib.Core.Path.{refl}
-use native.Mathlib.Omega.{arith}
-use lib.ListN.{take, replicate}
+-- `lvn_instr::one_instr` meets its contract.
+use mathlib.Core.List.{[], map}
+use mathlib.Core.Path.{◌∙◌}
 use Rattle.arith.specs.Code.{code1}
-use Rattle.record.proofs.Form.{one_shape}
-use Rattle.record.specs.Answer.{literal_of}
-use Rattle.record.specs.Record.{no_lit}
-use Rattle.record.specs.Shape.{targets}
-use Rattle.record.specs.View.{code_of, instr_of}
+use Rattle.record.specs.Record.{nm, no_lit}
+use Rattle.record.specs.View.{code_of}
 use Rattle.lvn_instr.proofs.one_instr.Goals as goal
 
 pub returns : goal.returns
-unfolding instr_of code_of literal_of
-returns c = let a = c.args in (
-  (λ z. record {
-    id = a.id;
-    code = code1 a.o;
-    dest = a.dest;
-    lit = no_lit;
-    args = a.x ∷ [];
-    callee = 0;
-    blocks = take (targets (one_shape a.o z) 1) (replicate 8 0);
-  }),
-  (refl, omega arith),
-)
+unfolding code_of
+returns c = let a = c.args in
+    let e = c.over.ensures in (
+      e.0 ∙
+          (λ z. record {
+            id = a.id;
+            code = code1 a.o;
+            dest = a.dest;
+            lit = no_lit;
+            args = map nm (c.of.ensures z);
+            callee = 0;
+            blocks = [];
+          }),
+      e.1,
+    )

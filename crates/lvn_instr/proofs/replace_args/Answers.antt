@@ -11,6 +11,7 @@ use Rattle.record.specs.Record.{nm}
 use Rattle.numbering.specs.State.{State, home_of, number_of}
 use Rattle.lvn_state.proofs.Seen.{replaced_next}
 use Rattle.lvn_state.specs.View.{state_of}
+use Rattle.lvn_instr.proofs.Alike.{home_alike}
 use Rattle.lvn_instr.proofs.replace_args.Goals as goal
 
 module _ (l m : List ℕ) (i : ℕ) (a : i < length l) (b : i < length m) (e : drop i l ≡ drop i m) where
@@ -31,14 +32,15 @@ unfolding home_of
 homed s x y e = ap (λ (n : ℕ). s.locs (number_of s (nm n))) e
 
 pub loop-x-preserved : goal.loop-x-preserved
-loop-x-preserved c = let l = c.loop-x in
+loop-x-preserved _ c = let l = c.loop-x in
     let old = c.args.args.now in
     let s = state_of c.args.st.now in
     let k : length l.args ≡ length old = l.auto.args in
     let h : l.x-index < length old = c.loop-x-test.true in
     let g : l.x-index < length l.args = omega arith in (
-      replaced_next (home_of s) l.args old l.x-index c.home.result g h
-          (c.home.ensures ∙ ap s.locs c.number_of.ensures.0 ∙ homed s _ _ (stands l.args old l.x-index g h l.invariant.1))
-          l.invariant.0,
+      (λ u p q. replaced_next (home_of u) l.args old l.x-index c.home.result g h
+          (c.home.ensures ∙ ap s.locs c.number_of.ensures.0 ∙ homed s _ _ (stands l.args old l.x-index g h l.invariant.1) ∙
+          home_alike u s p q _)
+          (l.invariant.0 u p q)),
       rest_kept l.args old l.x-index g h l.invariant.1 c.home.result.0,
     )

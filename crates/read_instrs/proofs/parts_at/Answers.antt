@@ -11,14 +11,15 @@ pub returns : goal.returns
 returns c = let a = c.args in
     let s = a.s.now in
     let sh = c.shape_of-shape.result in
+    let same : sh ≡ shape_of a.code = rw c.from.ensures at c.shape_of-shape.ensures in
     let lit = literal_there sh s a.at c.past_if-literal.ensures.0 in
     let count = count_there sh s a.at lit c.past_if-count.ensures.0 in
     let callee = callee_there sh s a.at count c.count_from-args.ensures.0 c.past_if-callee.ensures.0 in
     let e : c.count_from-args.result ≡ count_from (shape_of a.code) s (count_at (shape_of a.code) s a.at) =
-    c.count_from-args.ensures.0 ∙ ap (count_from sh s) count ∙ ap (λ (t : Shape). count_from t s (count_at t s a.at)) c.shape_of-shape.ensures in
+    c.count_from-args.ensures.0 ∙ ap (count_from sh s) count ∙ ap (λ (t : Shape). count_from t s (count_at t s a.at)) same in
     let few : c.count_from-args.result ≤ 8 = subst (λ (n : ℕ). n ≤ 8) (sym e) c.requires.1 in
     record {
-      shape = c.shape_of-shape.ensures;
+      shape = same;
       literal = lit;
       count = count;
       args = c.count_from-args.ensures.0;
@@ -26,7 +27,7 @@ returns c = let a = c.args in
       blocks = blocks_there sh s a.at callee c.past_if-blocks.ensures.0;
       targets = c.targets-targets.ensures.0;
       few_args = few;
-      few_targets = rw (c.targets-targets.ensures.0, c.shape_of-shape.ensures) (shape_targets a.code c.count_from-args.result few);
+      few_targets = rw (c.targets-targets.ensures.0, same) (shape_targets a.code c.count_from-args.result few);
       literal_near = c.past_if-literal.ensures.1;
       count_near = omega (arith, c.past_if-literal.ensures.1, c.past_if-count.ensures.1);
       callee_near = omega (arith, few, c.past_if-literal.ensures.1, c.past_if-count.ensures.1, c.past_if-callee.ensures.1);

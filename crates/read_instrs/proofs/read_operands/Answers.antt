@@ -15,11 +15,10 @@ pub returns : goal.returns
 returns c = let p = c.parts_at-p.ensures in
     record {
       instr =
-          operands_again p c.args.id _ refl c.op_of.ensures (ap nm c.two_if.ensures) c.read_literal.ensures refl
+          operands_again p c.args.id _ refl c.op_of.ensures (ap nm c.two_if.ensures) c.read_literal.ensures
           c.read_row.ensures c.two_if-2.ensures c.read_row-2.ensures;
       op = c.op_of.ensures;
       next = end_there p;
       near = omega (arith, p.few_targets, p.blocks_near);
       id = refl;
-      count = p.few_args;
     }

@@ -1,5 +1,5 @@
 -- `read_layout::body_end` meets its contract: the place behind those left from p on is the place behind all.
-use mathlib.Core.Path.{◌≡◌, refl, ap, ◌∙◌}
+use mathlib.Core.Path.{◌≡◌, ap, ◌∙◌}
 use Prim.Native.Nat.{◌-◌}
 use native.Mathlib.Omega.{arith}
 use Rattle.record.specs.Decode.{behind, instr_end}

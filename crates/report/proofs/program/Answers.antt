@@ -1,9 +1,8 @@
 -- `report::program` meets its contract: by what rewrite answers.
-use mathlib.Core.Path.{sym, ap, ◌∙◌}
-use Rattle.std.specs.Prelude.{Err}
+use mathlib.Core.Path.{sym, ◌∙◌}
 use mathlib.Core.List.{[], ◌∷◌}
 use native.Mathlib.Omega.{arith}
-use Rattle.report.proofs.Printed.{prints_long, prints_refused, prints_room, prints_line, prints_rewriting}
+use Rattle.report.proofs.Printed.{prints_long, prints_refused, prints_line, prints_rewriting}
 use Rattle.report.proofs.program.Goals as goal
 
 pub returns-then-input-gt8192 : goal.returns-then-input-gt8192
@@ -14,14 +13,8 @@ pub returns-in-Ok : goal.returns-in-Ok
 returns-in-Ok c = prints_rewriting c.args.buffer.now _ _ (omega arith) c.if-input-gt8192.false
     (sym c.rewrite.ensures.0 ∙ c.in-Ok.is) c.rewrite.ensures.1 (omega (arith, c.rewrite.auto.output))
 
-pub returns-in-Err-Refused : goal.returns-in-Err-Refused
-returns-in-Err-Refused c = prints_line _ _ _
-    (prints_refused c.args.buffer.now _ _ _ (omega arith) c.if-input-gt8192.false
-    (sym c.rewrite.ensures.0 ∙ c.in-Err-Refused.is ∙ ap Err c.in-Err-Refused.field-0-is) c.number_of.ensures)
-    c.put_refusal-in-Err-Refused.ensures (omega (arith, c.rewrite.auto.output))
-
-pub returns-in-Err-Room : goal.returns-in-Err-Room
-returns-in-Err-Room c = prints_line _ _ _
-    (prints_room c.args.buffer.now _ _ (omega arith) c.if-input-gt8192.false
-    (sym c.rewrite.ensures.0 ∙ c.in-Err-Room.is ∙ ap Err c.in-Err-Room.field-0-is))
-    c.put_refusal-in-Err-Room.ensures (omega (arith, c.rewrite.auto.output))
+pub returns-in-Err : goal.returns-in-Err
+returns-in-Err c = prints_line _ _ _
+    (prints_refused c.args.buffer.now _ _ _ _ (omega arith) c.if-input-gt8192.false
+    (sym c.rewrite.ensures.0 ∙ c.in-Err.is) c.number.ensures c.value.ensures)
+    c.put_refusal-in-Err.ensures (omega (arith, c.rewrite.auto.output))

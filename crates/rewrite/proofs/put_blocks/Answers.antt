@@ -1,23 +1,31 @@
 -- `rewrite::put_blocks` meets its contract: the numbering of its blocks.
+use Prim.Native.Nat.{ℕ, ◌*◌, ◌≤◌}
 use mathlib.Core.List.{[]}
+use mathlib.Core.Path.{sym, subst}
 use native.Mathlib.Omega.{arith}
+use lib.ListN.{length}
 use Rattle.record.proofs.Again.{few_blocks}
+use Rattle.record.specs.Again.{Reads}
+use Rattle.record.specs.Reader.{num_at}
 use Rattle.rewrite.proofs.Known.{named_many, blocks_count, blocks_ask, blocks_put, blocks_noted, blocks_figured}
 use Rattle.rewrite.proofs.put_blocks.Goals as goal
 
 pub blocks_lvn-requires : goal.blocks_lvn-requires
-blocks_lvn-requires c = let p = c.requires.0.opened in
-    (named_many p.reads p.layout p.types, blocks_ask p.reads p.layout p.types c.args.at c.requires.1)
+blocks_lvn-requires c = let p = c.requires.0 in
+    let e = c.head_of-layout.ensures in
+    let h = subst (Reads c.args.src.now.reads.now) (sym e.1) p.reads in
+    (named_many h e.0 p.types, blocks_ask h e.0 p.types c.args.at c.requires.1)
 
 pub returns : goal.returns
-returns c = let p = c.requires.0.opened in
+returns c = let p = c.requires.0 in
+    let s = c.args.src.now.reads.now in
+    let e = c.head_of-layout.ensures in
+    let h = subst (Reads s) (sym e.1) p.reads in
+    let room = subst (λ (k : ℕ). 256 * num_at s k 2 ≤ length c.args.names.now) (sym e.1) p.names in
     let done = c.blocks_lvn.ensures in (
-      blocks_put p.reads p.layout p.types c.args.at done,
+      blocks_put h e.0 p.types c.args.at done,
       (
-        blocks_noted p.reads p.layout p.types c.args.at done c.requires.0.names,
-        (
-          omega (arith, (done []).close, blocks_count p.reads p.layout p.types, few_blocks p.reads),
-          blocks_figured p.reads p.layout p.types c.args.at done,
-        ),
+        blocks_noted h e.0 p.types c.args.at done room,
+        (omega (arith, (done []).close, blocks_count h e.0 p.types, few_blocks h), blocks_figured h e.0 p.types c.args.at done),
       ),
     )

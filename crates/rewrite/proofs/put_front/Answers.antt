@@ -1,6 +1,6 @@
 -- `rewrite::put_front` meets its contract: each part is written behind the one before it.
 use native.Mathlib.Omega.{arith}
-use Rattle.record.proofs.Again.{few_original, few_blocks, names_on}
+use Rattle.record.proofs.Again.{few_original, names_on}
 use Rattle.rewrite.proofs.Known.{names_before, few_made, made_named, made_short, front_put}
 use Rattle.rewrite.proofs.put_front.Goals as goal
 

@@ -1,5 +1,4 @@
 -- `rewrite::rewrite_measured` meets its contract: the size decides, and a record that has room is written.
-use native.Mathlib.Omega.{arith}
 use Rattle.rewrite.proofs.Answers.{room_result, room_output, written_result, written_output}
 use Rattle.rewrite.proofs.rewrite_measured.Goals as goal
 
@@ -7,12 +6,6 @@ pub returns-then-out-size : goal.returns-then-out-size
 returns-then-out-size c = let out = c.args.out.now in
     let m = c.measure-size.ensures in
     (room_result _ _ m.0 out c.if-out-size.true, room_output _ _ m.0 out c.if-out-size.true)
-
-pub put_record-requires : goal.put_record-requires
-put_record-requires c = let p = c.requires in
-    let k = c.measure-size.auto in
-    let r = c.measure-size.ensures in
-    (record { opened = p.0.opened; names = omega (arith, p.0.names, k) }, (p.1, (r.1.0, (r.0, r.1.1.0))))
 
 pub returns : goal.returns
 returns c = let out = c.args.out.now in

@@ -1,17 +1,13 @@
--- `rewrite::rewrite_typed` meets its contract: each table has room for the saves of all blocks.
+-- `rewrite::rewrite_typed` meets its contract: a table is long enough for the saves of all blocks, and what is noted over it is the answer.
+use mathlib.Core.Path.{sym, ◌∙◌}
 use native.Mathlib.Omega.{arith}
 use Rattle.record.proofs.Again.{few_blocks}
-use Rattle.rewrite.proofs.Known.{blocks_count}
 use Rattle.rewrite.proofs.rewrite_typed.Goals as goal
 
-pub rewrite_noting-requires : goal.rewrite_noting-requires
-rewrite_noting-requires c = let p = c.requires in
-    (p, (omega (arith, blocks_count p.opened.reads p.opened.layout p.opened.types, c.if-src-le1.true), omega arith))
+pub with_table-requires-clause-few : goal.with_table-requires-clause-few
+with_table-requires-clause-few c = omega (arith, c.be.ensures.0, few_blocks c.requires.reads)
 
-pub rewrite_noting-requires-then-src-le4 : goal.rewrite_noting-requires-then-src-le4
-rewrite_noting-requires-then-src-le4 c = let p = c.requires in
-    (p, (omega (arith, blocks_count p.opened.reads p.opened.layout p.opened.types, c.if-src-le4.true), omega arith))
-
-pub rewrite_noting-requires-else-src-le4 : goal.rewrite_noting-requires-else-src-le4
-rewrite_noting-requires-else-src-le4 c = let p = c.requires in
-    (p, (omega (arith, few_blocks p.opened.reads), omega arith))
+pub returns : goal.returns
+returns c = let h = c.with_table.ensures.4.1 in
+    let e = rw h.0 at h.1.1 in
+    (e.0, sym h.1.0 ∙ e.1)

@@ -13,6 +13,6 @@ returns c = let a = c.args in
     let t = a.text.now in
     let d = stand_wrote (digits a.k) c.put_digits.ensures.0 in
     let few : length (digits a.k) ≤ 10 = digits_few a.k 9 (omega arith) in (
-      text_wrote t a.k c.put_u8.ensures c.put_text-p.ensures.0 c.put_u32.ensures d,
-      omega (arith, d.end, c.put_text-p.ensures.1),
+      text_wrote t a.k c.put_u8.ensures c.put_text-p.ensures.0 c.put_text-q.ensures.0 d,
+      omega (arith, d.end, c.put_text-p.ensures.1, c.put_text-q.ensures.1),
     )

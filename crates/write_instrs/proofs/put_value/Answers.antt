@@ -12,4 +12,4 @@ returns-then-literal c = let a = c.args in
 pub returns-else-literal : goal.returns-else-literal
 unfolding instr_of
 returns-else-literal c = let a = c.args in
-    (args_there a.literal (instr_of a.i.now) c.if-literal.false c.put_args.ensures.0, omega (arith, c.put_args.ensures.1))
+    (args_there a.literal (instr_of a.i.now) c.if-literal.false (rw c.as_slice.ensures.0 at c.put_args.ensures.0), omega (arith, c.put_args.ensures.1))

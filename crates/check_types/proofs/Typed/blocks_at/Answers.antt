@@ -8,10 +8,6 @@ use Rattle.check_types.specs.Passes.{blocks_verdict}
 use Rattle.check_types.proofs.Laws.{blocks_stopped, blocks_went, blocks_done}
 use Rattle.check_types.proofs.Typed.blocks_at.Goals as goal
 
-pub loop-init : goal.loop-init
-loop-init c = let a = c.args in
-    record { within = omega arith; same = ap (blocks_verdict a.self.now.width a.self.now.types.now a.self.now.bytes.now a.at) (omega arith) }
-
 pub returns-in_err-p : goal.returns-in_err-p
 returns-in_err-p c = let l = c.loop in
     handed_on c.from_residual.result c.in_err-p.field-0.0 c.from_residual.ensures.1

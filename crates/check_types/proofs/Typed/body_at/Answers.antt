@@ -7,10 +7,6 @@ use Rattle.check_types.specs.Passes.{body_verdict}
 use Rattle.check_types.proofs.Laws.{body_broke, body_went, body_done}
 use Rattle.check_types.proofs.Typed.body_at.Goals as goal
 
-pub loop-init : goal.loop-init
-loop-init c = let a = c.args in
-    record { within = omega arith; same = ap (body_verdict a.self.now.width a.self.now.types.now a.self.now.bytes.now a.at) (omega arith) }
-
 pub returns-then-not-typed_at : goal.returns-then-not-typed_at
 returns-then-not-typed_at c = let l = c.loop in (
   ap Err c.fault.ensures

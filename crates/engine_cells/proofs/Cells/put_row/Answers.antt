@@ -9,7 +9,7 @@ use Rattle.engine_cells.proofs.Rows.{read_first, row_went, row_done}
 use Rattle.engine_cells.proofs.Cells.put_row.Goals as goal
 
 pub loop-i-init : goal.loop-i-init
-loop-i-init c = let a = c.args in
+loop-i-init g c = let a = c.args in
     record {
       few = omega arith;
       rest =
@@ -19,7 +19,7 @@ loop-i-init c = let a = c.args in
     }
 
 pub loop-i-preserved : goal.loop-i-preserved
-loop-i-preserved c = let a = c.args in
+loop-i-preserved g c = let a = c.args in
     let l = c.loop-i in
     record {
       few = omega (arith, l.invariant.few, c.put_value-q.ensures.1);
@@ -31,6 +31,6 @@ loop-i-preserved c = let a = c.args in
     }
 
 pub returns : goal.returns
-returns c = let a = c.args in
+returns g c = let a = c.args in
     let l = c.loop-i in
     l.invariant.rest l.out (row_done l.out l.q (store_in a.self.now) a.s.now a.at a.n l.i c.loop-i-test.false)

@@ -7,7 +7,7 @@ use Rattle.engine_cells.proofs.Rows.{read_on}
 use Rattle.engine_cells.proofs.Cells.put_row.Given as goal
 
 abbrev pub invariant-loop-i : goal.invariant-loop-i
-invariant-loop-i l = record {
+invariant-loop-i g l = record {
   few : l.q ≤ l.to + 17 * l.i;
   rest :
       (m : List ℕ) →

@@ -4,7 +4,7 @@ use Rattle.engine_cells.proofs.Values.{plain_wrote, pointer_wrote, value_in_wrot
 use Rattle.engine_cells.proofs.Cells.put_value.Goals as goal
 
 pub returns-then-c-le-HELD : goal.returns-then-c-le-HELD
-returns-then-c-le-HELD c = (
+returns-then-c-le-HELD g c = (
   value_in_wrote c.args.self.now c.args.x c.get-c.result c.get-c.ensures
       (plain_wrote _ _ _ c.written_word.result c.if-c-le-HELD.true c.written_word.ensures
       c.put_u8.ensures c.put_u64.ensures),
@@ -12,7 +12,7 @@ returns-then-c-le-HELD c = (
 )
 
 pub returns : goal.returns
-returns c = (
+returns g c = (
   value_in_wrote c.args.self.now c.args.x c.get-c.result c.get-c.ensures
       (pointer_wrote _ _ _ c.if-c-le-HELD.false c.put_u8.ensures c.put_u64-2.ensures c.put_u64-3.ensures),
   omega arith,

@@ -6,17 +6,17 @@ use Rattle.engine_cells.proofs.Rows.{size_begun, size_unset, size_went, size_mos
 use Rattle.engine_cells.proofs.Cells.row_size.Goals as goal
 
 pub loop-i-init : goal.loop-i-init
-loop-i-init c = record { few = omega arith; rest = size_begun (store_in c.args.self.now) c.args.s.now c.args.at c.args.n }
+loop-i-init g c = record { few = omega arith; rest = size_begun (store_in c.args.self.now) c.args.s.now c.args.at c.args.n }
 
 pub returns-then-kind : goal.returns-then-kind
-returns-then-kind c = let a = c.args in (
+returns-then-kind g c = let a = c.args in (
   size_unset a.self.now a.s.now a.at a.n c.loop-i.i c.be.result c.get-kind.result c.loop-i.size
       c.be.ensures.0 c.get-kind.ensures c.loop-i-test.true c.if-kind.true ∙ c.loop-i.invariant.rest,
   λ k e. absurd (cc e),
 )
 
 pub loop-i-preserved : goal.loop-i-preserved
-loop-i-preserved c = let a = c.args in
+loop-i-preserved g c = let a = c.args in
     let z = c.value_size-size in
     let m = size_most c.get-kind.result.kind z.result z.ensures in
     record {
@@ -28,7 +28,7 @@ loop-i-preserved c = let a = c.args in
     }
 
 pub returns : goal.returns
-returns c = let a = c.args in
+returns g c = let a = c.args in
     let l = c.loop-i in (
       size_done (store_in a.self.now) a.s.now a.at a.n l.i l.size c.loop-i-test.false ∙ l.invariant.rest,
       λ k e. let f : l.size ≡ k = cc e in omega (arith, f, l.invariant.few, l.auto.i-end),

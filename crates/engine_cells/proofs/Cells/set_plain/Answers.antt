@@ -7,6 +7,6 @@ use Rattle.engine_cells.proofs.Store.{held_plain}
 use Rattle.engine_cells.proofs.Cells.set_plain.Goals as goal
 
 pub returns : goal.returns
-returns c = let a = c.args in
+returns g c = let a = c.args in
     c.set_cell.ensures ∙
     ap (upd NameIx-discrete (store_in a.self.now) (nm a.x)) (held_plain a.kind a.word 0 c.requires.1)

@@ -1,41 +1,60 @@
 -- `lvn_state::LvnState::handle_overwrite` meets its contract.
-use mathlib.Core.Path.{◌≡◌, sym}
+use mathlib.Core.Path.{◌≡◌, sym, ap, ◌∙◌}
 use native.Mathlib.Omega.{arith}
 use borrow.Author.Rules.{rules}
+use borrow.Author.Tests.{eqb-true, eqb-false}
+use lib.Dec.{eqb}
 use lib.ListN.{length}
+use mathlib.Core.Bool.{true, false}
+use mathlib.Core.Logic.{◌≢◌}
+use Rattle.record.specs.declared.NameIx.{NameIx}
+use Rattle.record.specs.Record.{nm}
 use Rattle.numbering.specs.View.{expr_of}
-use Rattle.lvn_state.proofs.Saves.{kept_itself, kept_past, kept_away, save_made}
+use Rattle.lvn_values.specs.Table.{numbered_of}
+use Rattle.lvn_state.specs.View.{locs_of}
+use Rattle.lvn_state.proofs.Saves.{kept_itself, kept_unnumbered, kept_away, save_made}
+use Rattle.lvn_state.proofs.Views.{home_inside}
 use Rattle.lvn_state.proofs.LvnState.handle_overwrite.Goals as goal
-use Rattle.lvn_state.proofs.LvnState.handle_overwrite.Goals.{then-num-ge-NUMBERS-via-then-num-ge-NUMBERS, then-num-ge-NUMBERS-via-else-num-ge-NUMBERS+then-self-num}
 
 pub returns-then-writes_home : goal.returns-then-writes_home
-returns-then-writes_home c = let s = c.args.self.now in
-    let k : length s.env ≡ 256 = search rules in
+returns-then-writes_home g c = let s = c.args.self.now in
     let v = s.values in
-    kept_itself s.env s.homes v.heads v.nums v.count s.made c.args.n c.args.dest (omega (arith, c.requires.0)) (expr_of c.args.v)
-    (sym c.if-writes_home.ensures)
+    kept_itself s.env s.homes v.heads v.nums v.count s.made c.args.n c.args.dest (expr_of c.args.v) (sym c.if-writes_home.ensures)
 
-pub returns-then-num-ge-NUMBERS : goal.returns-then-num-ge-NUMBERS
-returns-then-num-ge-NUMBERS c = let s = c.args.self.now in
-    let k : length s.env ≡ 256 = search rules in
-    let h : length s.homes ≡ 512 = search rules in
+pub returns-in_err-num : goal.returns-in_err-num
+returns-in_err-num g c = let s = c.args.self.now in
     let v = s.values in
-    let p = c.requires in
-    let t = sym c.if-writes_home.ensures in
-    elim c.then-num-ge-NUMBERS.branch [
-      | then-num-ge-NUMBERS-via-then-num-ge-NUMBERS w ↦
-          kept_past s.env s.homes v.heads v.nums v.count s.made c.args.n c.args.dest (omega (arith, p.0)) (expr_of c.args.v) t
-          (let l = w.if-num-ge-NUMBERS.true in omega (arith, l)) (omega (arith, p.0))
-      | then-num-ge-NUMBERS-via-else-num-ge-NUMBERS+then-self-num w ↦
-          kept_away s.env s.homes v.heads v.nums v.count s.made c.args.n c.args.dest (omega (arith, p.0)) (expr_of c.args.v) t
-          (let l = w.if-num-ge-NUMBERS.false in omega (arith, l)) (omega arith) w.if-self-num.true
-    ]
+    rw c.from_residual.ensures
+    (kept_unnumbered s.env s.homes v.heads v.nums v.count s.made c.args.n c.args.dest (expr_of c.args.v)
+    (sym c.if-writes_home.ensures) (sym c.number.ensures.0 ∙ ap numbered_of c.in_err-num.was))
+
+pub returns-then-ne : goal.returns-then-ne
+returns-then-ne g c = let s = c.args.self.now in
+    let v = s.values in
+    let d = c.args.dest in
+    let u = c.in_ok-num.num in
+    let e : eqb c.home.result.0 d.0 ≡ false = search rules in
+    let away : locs_of s.homes u ≢ d = λ p. eqb-false _ _ e (ap (λ (y : NameIx). y.0) (c.home.ensures ∙ p)) in
+    kept_away s.env s.homes v.heads v.nums v.count s.made c.args.n d (expr_of c.args.v) (sym c.if-writes_home.ensures)
+    u (sym c.number.ensures.0 ∙ ap numbered_of c.in_ok-num.was) away
+
+pub bounds-self-from : goal.bounds-self-from
+bounds-self-from g c = let s = c.args.self.now in
+    let d = c.args.dest in
+    let k : length s.homes ≡ g.row.N = search rules in
+    let e : eqb c.home.result.0 d.0 ≡ true = search rules in
+    let at : locs_of s.homes c.in_ok-num.num ≡ d = sym c.home.ensures ∙ (λ i. nm (eqb-true _ _ e i)) in
+    let l = home_inside s.homes c.in_ok-num.num d at (omega (arith, c.requires.0, c.requires.1.1.names)) in
+    omega (arith, c.from.ensures, l, k)
 
 pub returns : goal.returns
-returns c = let s = c.args.self.now in
-    let k : length s.env ≡ 256 = search rules in
-    let h : length s.homes ≡ 512 = search rules in
+returns g c = let s = c.args.self.now in
     let v = s.values in
-    let p = c.requires in
-    save_made s.env s.homes v.heads v.nums v.count s.made c.args.n c.args.dest (omega (arith, p.0)) (expr_of c.args.v)
-    (sym c.if-writes_home.ensures) (omega arith) (omega arith) c.if-self-num.false
+    let d = c.args.dest in
+    let u = c.in_ok-num.num in
+    let e : eqb c.home.result.0 d.0 ≡ true = search rules in
+    let at : locs_of s.homes u ≡ d = sym c.home.ensures ∙ (λ i. nm (eqb-true _ _ e i)) in
+    let l = home_inside s.homes u d at (omega (arith, c.requires.0, c.requires.1.1.names)) in
+    rw c.from.ensures
+    (save_made s.env s.homes v.heads v.nums v.count s.made c.args.n d (expr_of c.args.v) (sym c.if-writes_home.ensures)
+    u (sym c.number.ensures.0 ∙ ap numbered_of c.in_ok-num.was) at l)

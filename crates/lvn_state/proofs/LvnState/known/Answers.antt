@@ -4,4 +4,4 @@ use Rattle.lvn_state.proofs.LvnState.known.Goals as goal
 
 pub returns : goal.returns
 unfolding known
-returns c = c.known.ensures
+returns _ c = c.known.ensures

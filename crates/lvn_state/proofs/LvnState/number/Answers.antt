@@ -7,19 +7,24 @@ use mir.Syntax.{w16}
 use mir.Val.{Fits}
 use Rattle.lvn_state.proofs.Views.{env_past, env_none, env_some}
 use Rattle.lvn_state.proofs.LvnState.number.Goals as goal
-use Rattle.lvn_state.proofs.LvnState.number.Goals.{then-i-ge-NAMES-via-then-i-ge-NAMES, then-i-ge-NAMES-via-else-i-ge-NAMES+then-self-i}
+use Rattle.lvn_state.proofs.LvnState.number.Goals.{then-i-via-then-i, then-i-via-else-i+then-self-i}
 
-pub returns-then-i-ge-NAMES : goal.returns-then-i-ge-NAMES
-returns-then-i-ge-NAMES c = let env = c.args.self.now.env in
-    let k : length env ≡ 256 = search rules in
-    elim c.then-i-ge-NAMES.branch [
-      | then-i-ge-NAMES-via-then-i-ge-NAMES w ↦ (let h = w.if-i-ge-NAMES.true in sym (env_past env c.args.x (omega arith)), tt)
-      | then-i-ge-NAMES-via-else-i-ge-NAMES+then-self-i w ↦ (let h = w.if-i-ge-NAMES.false in sym (env_none env c.args.x (omega arith) w.if-self-i.true), tt)
+pub returns-then-i : goal.returns-then-i
+returns-then-i g c = let env = c.args.self.now.env in
+    let k : length env ≡ g.row.M = search rules in
+    let e = c.from-i.ensures in
+    elim c.then-i.branch [
+      | then-i-via-then-i w ↦ (let h = w.if-i.true in sym (env_past env c.args.x (omega arith)), tt)
+      | then-i-via-else-i+then-self-i w ↦ (
+        let h = w.if-i.false in sym (env_none env c.args.x (omega arith) (rw e at w.if-self-i.true)),
+        tt,
+      )
     ]
 
 pub returns : goal.returns
-returns c = let env = c.args.self.now.env in
-    let k : length env ≡ 256 = search rules in
+returns g c = let env = c.args.self.now.env in
+    let k : length env ≡ g.row.M = search rules in
     let f : Fits w16 (get_or env c.args.x.0 0) = search rules in
-    let n = c.if-self-i.false in
-    (sym (env_some env c.args.x (omega arith) _ refl n), omega (arith, f.fits, n))
+    let e = c.from-i.ensures in
+    let n = rw e at c.if-self-i.false in
+    rw e (sym (env_some env c.args.x (omega arith) _ refl n), omega (arith, f.fits, n))

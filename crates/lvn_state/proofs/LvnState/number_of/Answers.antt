@@ -20,7 +20,7 @@ small (Some v) h = h
 
 pub returns : goal.returns
 unfolding number_of
-returns c = let n = c.number in (
+returns _ c = let n = c.number in (
   c.unwrap_or.ensures ∙ same n.result ∙ ap (λ (o : Option ValNum). Option.get_or o (vn 0)) n.ensures.0,
   subst (λ (v : ValNum). v.0 < 65535) (sym c.unwrap_or.ensures) (small n.result n.ensures.1),
 )

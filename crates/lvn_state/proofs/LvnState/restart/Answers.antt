@@ -3,7 +3,6 @@ use Prim.Native.Nat.{ℕ}
 use mathlib.Core.Path.{◌≡◌, sym, ap, ◌∙◌}
 use native.Mathlib.Omega.{arith}
 use native.Mathlib.Numerals.{add-one}
-use lib.ListN.{replicate}
 use Rattle.record.specs.Record.{nm}
 use mathlib.Core.Option.{none}
 use Rattle.numbering.specs.State.{State, start, new_number}
@@ -12,23 +11,19 @@ use Rattle.lvn_state.proofs.Arguments.{none_numbered, start_more}
 use Rattle.lvn_state.proofs.LvnState.restart.Goals as goal
 
 pub loop-i-init : goal.loop-i-init
-loop-i-init c = let v = c.clear.new.self in
-    ap (λ (n : ℕ). state_with (replicate 256 65535) (replicate 512 65535) v.heads v.nums n c.args.k) c.clear.ensures ∙
-    none_numbered 256 512 v.heads v.nums c.args.k
+loop-i-init _ c = let v = c.clear.new.self in
+    let env = c.fill.ensures.after (λ y p. p) in
+    let homes = c.fill-2.ensures.after (λ y p. p) in
+    (λ i. state_with (env i) (homes i) v.heads v.nums (c.clear.ensures i) c.args.k) ∙ none_numbered _ _ v.heads v.nums c.args.k
 
 pub give-requires : goal.give-requires
 unfolding start
-give-requires c = let l = c.loop-i in
+give-requires _ c = let l = c.loop-i in
     let p = c.requires in
     let n : l.self.values.count ≡ l.i = ap (λ (s : State). s.next) l.invariant in
-    (omega arith, omega arith)
+    (omega arith, (omega arith, omega (arith, n, c.ranges.args)))
 
 pub loop-i-preserved : goal.loop-i-preserved
-loop-i-preserved c = let l = c.loop-i in
+loop-i-preserved _ c = let l = c.loop-i in
     c.give.ensures ∙ ap (λ (s : State). new_number s (nm l.i) none) l.invariant ∙ start_more l.i c.args.k ∙
     ap (λ (n : ℕ). start n c.args.k) (sym (add-one l.i))
-
-pub returns : goal.returns
-returns c = let l = c.loop-i in
-    let z : l.i ≡ c.args.args = omega arith in
-    l.invariant ∙ ap (λ (n : ℕ). start n c.args.k) z

@@ -5,4 +5,4 @@ use Rattle.lvn_state.specs.View.{state_of}
 use Rattle.lvn_state.proofs.LvnState.restart.Given as goal
 
 abbrev pub invariant-loop-i : goal.invariant-loop-i
-invariant-loop-i l = state_of l.self ≡ start l.i l.k
+invariant-loop-i _ l = state_of l.self ≡ start l.i l.k

@@ -5,7 +5,7 @@ use Rattle.lvn_state.proofs.Steps.{unseen, seen}
 use Rattle.lvn_state.proofs.LvnState.see.Goals as goal
 
 pub returns-then-is_none : goal.returns-then-is_none
-returns-then-is_none c = c.give.ensures ∙ unseen (state_of c.args.self.now) c.args.x c.number.result c.number.ensures.0 c.if-is_none.ensures
+returns-then-is_none _ c = c.give.ensures ∙ unseen (state_of c.args.self.now) c.args.x c.number.result c.number.ensures.0 c.if-is_none.ensures
 
 pub returns-else-is_none : goal.returns-else-is_none
-returns-else-is_none c = seen (state_of c.args.self.now) c.args.x c.number.result c.number.ensures.0 c.if-is_none.ensures
+returns-else-is_none _ c = seen (state_of c.args.self.now) c.args.x c.number.result c.number.ensures.0 c.if-is_none.ensures

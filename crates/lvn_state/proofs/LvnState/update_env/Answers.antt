@@ -7,6 +7,7 @@ use Rattle.lvn_state.proofs.Steps.{take_view}
 use Rattle.lvn_state.proofs.LvnState.update_env.Goals as goal
 
 pub returns : goal.returns
-returns c = let s = c.args.self.now in
-    let k : length s.env ≡ 256 = search rules in
-    take_view s.env s.homes s.values.heads s.values.nums s.values.count s.made c.args.x (omega (arith, c.requires.0)) c.args.v c.requires.1
+returns g c = let s = c.args.self.now in
+    let k : length s.env ≡ g.row.M = search rules in
+    rw c.from.ensures
+    (take_view s.env s.homes s.values.heads s.values.nums s.values.count s.made c.args.x (omega (arith, c.requires.0)) c.args.v c.requires.1)

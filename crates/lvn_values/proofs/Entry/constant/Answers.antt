@@ -19,4 +19,4 @@ returns-in-IntAsFloat c = rw c.in-IntAsFloat.is
 
 pub returns-in-Bool : goal.returns-in-Bool
 unfolding constant_tag constant_bits head_of num_of
-returns-in-Bool c = rw (c.in-Bool.is, bit c.in-Bool.b)
+returns-in-Bool c = rw (c.in-Bool.is, c.from.ensures, bit c.in-Bool.b)

@@ -11,10 +11,11 @@ use Rattle.lvn_values.proofs.Search.{vals_set}
 use Rattle.lvn_values.proofs.Values.push.Goals as goal
 
 pub returns : goal.returns
-returns c = let s = c.args.self.now in
+returns _ c = let s = c.args.self.now in
     let e = c.of-e.result in
     let h : s.count < length s.heads = search rules in
-    let n : s.count < length s.nums = search rules in (
+    let n : s.count < length s.nums = search rules in
+    rw c.from-k.ensures (
       refl,
       ap (vals_of (set s.heads s.count e.head) (set s.nums s.count e.num)) (add-one s.count) ∙
           vals_set s.heads s.nums s.count h e.head e.num n ∙

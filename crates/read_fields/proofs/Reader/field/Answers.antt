@@ -12,8 +12,5 @@ use Rattle.read_fields.proofs.Reader.field.Goals as goal
 pub returns-then-left : goal.returns-then-left
 returns-then-left g c = ap (λ f. res (Err f)) c.fault.ensures ∙ sym (field_past g.row.N any _ _ (omega arith))
 
-pub number_of-requires : goal.number_of-requires
-number_of-requires g c = let h : g.row.N ≤ length c.args.self.src.now - c.args.self.at = omega arith in (c.requires, h)
-
 pub returns : goal.returns
 returns g c = field_is _ _ g.row.N _ c.number_of.ensures.0 (omega arith)

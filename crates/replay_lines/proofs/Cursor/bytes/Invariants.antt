@@ -1,6 +1,0 @@
--- One byte is made a turn.
-use Rattle.std.proofs.Common.{◌≡◌}
-use Rattle.replay_lines.proofs.Cursor.bytes.Given as goal
-
-abbrev pub invariant-loop-x : goal.invariant-loop-x
-invariant-loop-x l = l.n ≡ l.x-index
