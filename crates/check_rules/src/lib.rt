@@ -15,7 +15,7 @@ mod operands;
 
 pub use operands::Operands;
 
-// What a code asks of the types of its dest and its arguments. Takes(n, a, d): n arguments of type a, a dest of type d.
+// What a code asks of the types of its dest and its arguments. Takes(n, a, d): n arguments of type a, a dest of type d; types are bytes.
 #[derive(Clone, Copy, PartialEq, Eq, Debug)]
 pub enum Rule {
     Free,

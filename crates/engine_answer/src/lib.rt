@@ -60,18 +60,18 @@ pub fn in_numbers(a: Result<Run, RunError>) -> Numbers
                 count: 5,
             }
         }
-        Err(RunError::Refused(f)) => Numbers {
-            number: checker::number_of(f.refusal),
+        Err(e @ RunError::Refused(f)) => Numbers {
+            number: e.number(),
             values: [f.offset as u64, 0, 0, 0, 0],
             count: 1,
         },
-        Err(RunError::Unfit) => Numbers {
-            number: 13,
+        Err(e @ RunError::Unfit) => Numbers {
+            number: e.number(),
             values: [0; 5],
             count: 1,
         },
-        Err(RunError::Room(events, store)) => Numbers {
-            number: 14,
+        Err(e @ RunError::Room(events, store)) => Numbers {
+            number: e.number(),
             values: [events as u64, store as u64, 0, 0, 0],
             count: 2,
         },

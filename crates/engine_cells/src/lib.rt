@@ -17,7 +17,7 @@ ghost use Rattle.write_bytes.specs.Put.{Wrote};
 ghost use Rattle.engine_cells.specs.Cells.{cell_holds, cell_in, int_held, bool_held, value_in, store_in, row_from, size_of, RowWritten};
 
 // The type bytes of int, bool and char, and of an int literal held by a float, which is the last without a pointer; the least of a pointer;
-// and nothing: the house form's own bytes.
+// and nothing, as the house form has them.
 pub const INT: u8 = 0x00;
 
 pub const BOOL: u8 = 0x01;

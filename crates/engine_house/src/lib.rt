@@ -93,7 +93,8 @@ fn value_behind(s: &[u8], at: usize, kind: u8) -> Option<Item>
 }
 
 // ---- stores and lists of answers
-// Whether a form opens with its length and version.
+// Whether a form opens with its length and version. As `read_fields::opens` of 5 and 1, which does not say what `be` says here: that such a form
+// is not longer than four bytes can tell.
 fn opens(s: &[u8]) -> bool
     ensures { (result ≡ opens s.now) × (result ≡ true → length s.now < longest_list) }
 {

@@ -12,6 +12,9 @@ use running::{Run, RunError};
 // The most bytes of an answer: its number and five values.
 const HEAD: usize = 41;
 
+// The number of the program's own refusal, of an input that is too long or has no limit behind its parts.
+const REFUSED: u8 = 10;
+
 // How many bytes of the answer, of the events and of the store are to be written, one part after the other.
 #[derive(Clone, Copy, PartialEq, Eq, Debug)]
 pub struct Parts {
@@ -60,7 +63,7 @@ fn put_answer(out: &mut [u8; HEAD], a: Result<Run, RunError>) -> usize
 fn put_refused(out: &mut [u8; HEAD], value: usize) -> Parts
     ensures { (result ≡ record { head = 9; events = 0; left = 0 }) × (take 9 out.new ≡ refused_input value) }
 {
-    Parts::answer(put_returned(out, 10, &[value as u64]))
+    Parts::answer(put_returned(out, REFUSED, &[value as u64]))
 }
 
 // Behind it stand events and store when the run is done.

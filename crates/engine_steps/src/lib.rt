@@ -1,6 +1,6 @@
 // The machine by steps: one instruction, and as many as may be done. g: what the run rests on; out: what was lent for the events.
-// g, cells, out and t go together through steps, step and event_step alone; the functions below take one or two of them, so a struct would be
-// taken apart at each step.
+// g, cells, out and t go together through steps, step and event_step alone; the functions below take some of them, so a struct would be taken
+// apart at each step.
 #![tactic(auto)]
 
 ghost use Rattle.std.specs.Prelude.{◌≡◌, Err, true, not, ◌&&◌, ◌≢◌};
@@ -45,7 +45,7 @@ pub fn steps(g: &Ground, cells: &mut Cells<NAMES>, out: &mut [u8], mut t: Turn) 
     // A copy of its own, whose fields need not be read again after each write to the cells.
     let own = *g;
     let g = &own;
-    // The run itself says when it is over, so nothing is counted up to.
+    // The run itself says when it is over, so nothing is counted up to. `while let` was tried: the borrow checker does not cover it here.
     loop {
         let Ok(p) = t.spot else {
             return t;

@@ -25,7 +25,7 @@ pub fn figures_noting(src: &Opened, names: &mut [u16], each: &mut [u16]) -> Tota
     rewrite::measure(&mut st, src, names, each)
 }
 
-// The same, over a table that is long enough.
+// That, over a table that is long enough.
 pub fn figures_typed(src: &Opened, each: &mut [u16]) -> Totals
     requires { Typed src.now × (num_at src.now.reads.now src.now.end 2 ≤ length each.old) }
     ensures { FiguredAs src.now.reads.now each.old (Ok result) each.new }

@@ -49,6 +49,8 @@ pub fn save_instr(i: &Instruction, made: NameIx) -> Instruction
     lvn_instr::one_instr(i.id, made, One::Id, i.dest)
 }
 
+// That an id fits its width is asked by each writer of one: the width is the record's, and an instruction by itself has none.
+
 // The save that is owed before an instruction, where one is; the place behind it.
 pub fn put_save(out: &mut [u8], at: usize, w: usize, e: &Emitted) -> usize
     requires { (at < places_end) × (IdWidth w × (e.now.instr.id < 256 ^ w)) }

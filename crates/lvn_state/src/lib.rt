@@ -24,8 +24,8 @@ use record::NameIx;
 // So many names a record may have.
 pub const NAMES: usize = 256;
 
-// What the maps hold for a name that has no number, and for a number that is not given. Memory is fixed, and the maps of a block are copied
-// and filled whole: an array of Options is twice as long.
+// What the maps hold for a name that has no number, and for a number that is not given. Memory is fixed, and the maps are filled whole at each
+// block's start: an array of Options is twice as long.
 const NONE: u16 = 65535;
 
 // env: the number of each of M names; homes: the home of each of N numbers; values: the value of each number; made: K.
@@ -121,6 +121,9 @@ impl<const M: usize, const N: usize> LvnState<M, N> {
     {
         self.values.get_val_num(v)
     }
+
+    // That a name is below M, and that there is room for a number, is asked by each method that puts them: the name is another at each call, and
+    // a state that is full is a state too.
 
     // The next number: for x, whose home it is, with the value v.
     pub fn give(&mut self, x: NameIx, v: Value)

@@ -24,8 +24,7 @@ pub enum Constant {
     Bool(bool),
 }
 
-// A value expression which is given a value number, by form. Unique, of which nothing is known, stands first: it is what an array holds at
-// the start.
+// A value expression which is given a value number, by form. Of Unique nothing is known.
 #[derive(Clone, Copy, PartialEq, Eq, Debug)]
 pub enum Value {
     Unique,

@@ -21,7 +21,8 @@ pub type Next = Result<usize, Fault>;
 pub type Test = Result<(), Refusal>;
 
 // ---- numbers of bytes that are there, the first byte the greatest
-// N ≤ 8 is asked by each function that takes N: a const argument is no field of a struct, so no ghost field can say it once.
+// N ≤ 8 is asked by each function that takes N: they have no struct in common whose ghost field could say it once.
+
 // The number of N bytes. By an index: the closure of a fold would have to say in a contract of its own how great the number is so far, which is
 // what the loop's invariant says.
 pub fn number_of<const N: usize>(s: &[u8], at: usize) -> u64

@@ -65,6 +65,7 @@ impl Row {
         items[..N].copy_from_slice(&xs);
         Row {
             items,
+            // as: N is at most 8.
             count: N as u8,
         }
     }

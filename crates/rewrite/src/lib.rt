@@ -25,8 +25,10 @@ use read_layout::Layout;
 use write_names::Names;
 
 // A record that is laid open: its bytes, the types and places of its names, and where these end. Source and Names are made of it where they are
-// asked for: the crates below have each a part of it and nothing of the other's. The two tables are arrays of who opens a record, as here, in
-// figures, in engine and in checker: a struct that owned them would be longer than these lines, and be copied out of what makes it.
+// asked for: each of the crates below has a part of it. The two tables are arrays of who opens a record, as here, in figures and in engine: a
+// struct that owned them would be longer than these lines, and be copied out of what makes it. What is known of it, that the record reads, its
+// types and its places, is asked by each function as far as it needs it: who writes the blocks asks nothing of the places, and who writes what
+// stands before them nothing of the types.
 #[derive(Clone, Copy)]
 pub struct Opened<'a> {
     pub reads: &'a [u8],
@@ -229,7 +231,7 @@ pub fn with_table<T, R, F: FnOnce(&mut [u16], &mut [T]) -> R>(
     }
 }
 
-// The same, over a table that is long enough.
+// That, over a table that is long enough.
 pub fn rewrite_typed(src: &Opened, out: &mut [u8]) -> Result<Totals, RewriteError>
     requires { Typed src.now }
     ensures { Answered src.now.reads.now out.old result out.new }
