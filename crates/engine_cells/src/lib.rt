@@ -34,8 +34,8 @@ pub const NOTHING: u8 = 0xFF;
 pub const NAMES: usize = 256;
 
 // What a name holds: the type byte of its value, or that of nothing; its word, or a pointer's base; and a pointer's offset. The kind stays a
-// byte: an enum of kinds would be made at each read of a cell and taken apart at each write, since the store has its parts in arrays of their
-// own (an array of whole cells took 1.38 times as long in a loop of arithmetic).
+// byte, and the store has its parts in arrays of their own: an array of whole cells took 1.38 times the time in a loop of arithmetic, and one of
+// Options of an enum with a variant for each kind 1.15 times.
 #[derive(Clone, Copy, PartialEq, Eq, Debug)]
 pub struct Cell {
     pub kind: u8,

@@ -1,6 +1,5 @@
 // What const and the codes 1 to 14 do to the store: their operands read from the cells, the result put into dest's cell.
-// at: the place behind an instruction's code, where dest stands. A code is matched as it stands in the record: an Op made of it first would
-// be matched once more at each step.
+// at: the place behind an instruction's code, where dest stands.
 // as: a number that is known to fit, or u64 and usize, which have no From; try_from would hand out an error that cannot be.
 #![tactic(auto)]
 

@@ -10,8 +10,7 @@ ghost use Rattle.engine_quiet.specs.Spot.{body_at, blocks_of, Laid, Before, Faci
 use engine_cells::{Cells, NAMES};
 use engine_pure::Stop;
 
-// The codes that the engine looks at by name. A code is matched as it stands in the record: an Op made of it first would be matched once more at
-// each step.
+// The codes that the engine looks at by name.
 pub const JMP: u64 = 64;
 
 pub const BR: u64 = 65;
