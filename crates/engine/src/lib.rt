@@ -48,16 +48,15 @@ fn run_told(
 {
     let mut cells = Cells::<NAMES>::new();
     engine_house::read_store(store, g.types, &mut cells).ok_or(RunError::Unfit)?;
-    let mut none = [0u8; 0];
     let first = Turn {
         tells: true,
-        ..engine_steps::steps(g, &mut cells, &mut none, t0)
+        ..engine_steps::steps(g, &mut cells, &mut [], t0)
     };
     let mut again = cells;
-    let t = engine_steps::steps(g, &mut cells, &mut none, first);
+    let t = engine_steps::steps(g, &mut cells, &mut [], first);
     let how = ending(t.spot)?;
     let names = g.types.len() as u64;
-    let size = engine_house::put_store(&cells, names, &mut none);
+    let size = engine_house::put_store(&cells, names, &mut []);
     if events.len() < t.event || left.len() < size {
         return Err(RunError::Room(t.event, size));
     }
