@@ -59,6 +59,7 @@ pub fn if_there<F: FnOnce(usize) -> Next>(there: bool, at: usize, part: F) -> Ne
 }
 
 // Each of the three says by the definition's `if_there` what it answers; `if_there` above is over any closure, and says what that ensures.
+
 // A dest, where the shape has one.
 pub fn dest_if(there: bool, s: &[u8], at: usize, n: u64) -> Next
     ensures { result ≡ verdict (if_there there (nm 0) (name_index n) s.now at) }
@@ -82,6 +83,7 @@ pub fn callee_if(there: bool, s: &[u8], at: usize) -> Next
 
 // ---- instructions
 // s and at come first in each function, as in those of read_fields; a struct of s and of would serve five, and be taken apart by the others.
+
 // What stands behind the code of an instruction of this shape.
 // The verdict does not depend on the id and the code that the instruction is given.
 pub fn check_operands(s: &[u8], at: usize, sh: Shape, of: Counts) -> Next

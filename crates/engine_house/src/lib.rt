@@ -183,6 +183,7 @@ pub enum Answer {
 
 // at + 17 < places, that a value from there on ends at a place: answer_again and end ask it of a place of the list, put_held of one of the
 // output, so no type could keep it for them all.
+
 // The answer at a place of a list that was read.
 pub fn answer_again(s: &[u8], at: usize) -> Answer
     requires { at + 17 < places }

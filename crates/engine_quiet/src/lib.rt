@@ -93,6 +93,7 @@ pub fn onward(g: &Ground, next: usize, p: Spot) -> Result<Spot, Over>
 // ---- one instruction
 // Facing g p: a value of both that kept it would be made for each instruction, and taken apart again wherever a run moves from p to the
 // next place, of which the contracts speak.
+
 // The place behind the code of the instruction at which the run stands.
 fn behind_code(g: &Ground, p: Spot) -> usize
     requires { Facing g.now p }

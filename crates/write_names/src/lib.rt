@@ -41,6 +41,7 @@ pub struct Names<'a> {
 impl<'a> Names<'a> {
     // x < names_count self.bytes.now is asked by three methods: x is one of a list of plain numbers, and no field.
     // k < most_made by two, and by two of write_bytes: k counts the made names as they are written, and is no field either.
+
     // The place of the name x, by the table, which has one of each name.
     fn place(self, x: u16) -> usize
         requires { x < names_count self.bytes.now }
