@@ -10,7 +10,7 @@ ghost use Rattle.record.specs.Answer.{verdict};
 ghost use Rattle.read_fields.specs.Answer.{res};
 
 use read_fields::{Next, Num, Test, limited};
-use record::{Limits, Refusal, Shape};
+use record::{CHAR, Limits, Refusal, Shape};
 
 // What a record has: the bytes of an id, how many names and how many blocks.
 #[derive(Clone, Copy, PartialEq, Eq, Debug)]
@@ -25,7 +25,7 @@ pub struct Counts {
 pub fn check_literal(s: &[u8], at: usize) -> Next
     ensures { result ≡ verdict (literal s.now at) }
 {
-    let (kind, p) = limited::<1>(s, at, 3)?;
+    let (kind, p) = limited::<1>(s, at, u64::from(CHAR))?;
     read_fields::verdict(read_shapes::bits_at(s, p, kind))
 }
 
@@ -37,18 +37,6 @@ pub fn check_arguments(s: &[u8], at: usize, sh: Shape, n: u64) -> Next
     read_fields::indexes_at(s, p, count, n)
 }
 
-// Arguments, where the shape has them. Not by `if_there`: a closure that takes a shape along costs a copy of it at each instruction, by which
-// reading is a third slower, and check is to stay as quick as it was (docs/DECISIONS.md, 40: C1 is short of the aim as it is).
-pub fn arguments_if(there: bool, s: &[u8], at: usize, sh: Shape, n: u64) -> Next
-    ensures { result ≡ verdict (if_there there [] (arguments n sh) s.now at) }
-{
-    if there {
-        check_arguments(s, at, sh, n)
-    } else {
-        Ok(at)
-    }
-}
-
 // A part, where the shape has it: `there` is a field of the shape, which says yes or no.
 pub fn if_there<F: FnOnce(usize) -> Next>(there: bool, at: usize, part: F) -> Next
     requires { F.IsAlwaysCallable part }
@@ -58,7 +46,7 @@ pub fn if_there<F: FnOnce(usize) -> Next>(there: bool, at: usize, part: F) -> Ne
     if there { part(at) } else { Ok(at) }
 }
 
-// Each of the three says by the definition's `if_there` what it answers; `if_there` above is over any closure, and says what that ensures.
+// Each of the four says by the definition's `if_there` what it answers; `if_there` above is over any closure, and says what that ensures.
 
 // A dest, where the shape has one.
 pub fn dest_if(there: bool, s: &[u8], at: usize, n: u64) -> Next
@@ -72,6 +60,13 @@ pub fn literal_if(there: bool, s: &[u8], at: usize) -> Next
     ensures { result ≡ verdict (if_there there no_lit literal s.now at) }
 {
     if_there(there, at, |p| check_literal(s, p))
+}
+
+// Arguments, where the shape has them.
+pub fn arguments_if(there: bool, s: &[u8], at: usize, sh: Shape, n: u64) -> Next
+    ensures { result ≡ verdict (if_there there [] (arguments n sh) s.now at) }
+{
+    if_there(there, at, |p| check_arguments(s, p, sh, n))
 }
 
 // A callee, where the shape has one: any number.

@@ -5,7 +5,6 @@ use mathlib.Core.List.{List, [], ◌∷◌, ◌++◌}
 use mathlib.Core.Bool.{Bool, true, false, true≢false, cond, ◌||◌}
 use native.Mathlib.Omega.{arith}
 use native.Mathlib.Numerals.{add-one}
-use mir.Val.{bool_byte}
 use lib.ListN.{length, get_or, set, take, drop, drop_of_length-le}
 use lib.Seq.{drop-cons, get_or-set_same, get_or-set_other}
 use lib.Dec.{ltb, eqb}
@@ -23,12 +22,13 @@ use Rattle.record.proofs.Tests.{same_bytes_eq}
 use Rattle.record.specs.Decode.{items, behind, name_from, name_end}
 use Rattle.read_layout.specs.Layout.{texts_from}
 use Rattle.record.proofs.Rows.{name_grows, behind_on}
+use Rattle.check_names.specs.declared.TheConstants.{MARKS}
 use Rattle.check_names.specs.Marks.{mark}
 use Rattle.check_names.proofs.Laws.{type_refused, length_refused, text_last, type_ends, length_tells}
 
 -- ---- a turn of the loop over the bytes of a text
 pub mark_went :
-    (t : List ℕ) (i h : ℕ) → i < length t → mark ((h * 37 + get_or t i 0) % 2048) (drop (i + 1) t) ≡ mark h (drop i t)
+    (t : List ℕ) (i h : ℕ) → i < length t → mark ((h * 37 + get_or t i 0) % MARKS) (drop (i + 1) t) ≡ mark h (drop i t)
 unfolding mark
 mark_went t i h z = rw (drop-cons t i 0 z, ← add-one i)
 
@@ -74,11 +74,6 @@ module _ (m : List Bool) (h : ℕ) (f : h < length m) where
   pub marked_more :
       (us ts : List (List ℕ)) (u : List ℕ) → ts ≡ us ++ (u ∷ []) → h ≡ mark 0 u → Marked m us → Marked (set m h true) ts
   marked_more us ts u e eh g = subst (Marked (set m h true)) (sym e) (one_more us u eh g)
-
--- how many names are searched; m: 1 where the mark is set
-pub search_count : (b : Bool) (m k j : ℕ) → m ≡ bool_byte b → j ≡ cond (eqb m 0) 0 k → j ≡ cond b k 0
-search_count true m k j e f = f ∙ ap (λ (i : ℕ). cond (eqb i 0) 0 k) e
-search_count false m k j e f = f ∙ ap (λ (i : ℕ). cond (eqb i 0) 0 k) e
 
 -- ---- a name whose text is none of those seen is read as if none were seen
 module _ (made : Bool) (seen : List (List ℕ)) (s : List ℕ) (t n : ℕ) where

@@ -2,7 +2,7 @@
 // has seen.
 #![tactic(auto)]
 
-ghost use Rattle.std.specs.Prelude.{◌≡◌, cond, not, ◌||◌, [], ◌<◌, ◌≤◌, length, eqb};
+ghost use Rattle.std.specs.Prelude.{◌≡◌, not, ◌||◌, [], ◌<◌, ◌≤◌, length};
 ghost use Rattle.record.specs.Reader.{field, text};
 ghost use Rattle.record.specs.Text.{reserved};
 ghost use Rattle.record.specs.Tests.{type_test, text_length_test, text_test};
@@ -14,7 +14,7 @@ ghost use Rattle.read_layout.specs.Layout.{texts_from};
 ghost use Rattle.check_names.specs.Marks.{mark};
 
 use check_texts::Before;
-use read_fields::{Next, Num, Test, byte_or, fault, field_tested};
+use read_fields::{Next, Num, Test, fault, field_tested};
 use record::{Limits, Refusal};
 
 // ---- a name's type and its text's length
@@ -23,7 +23,7 @@ use record::{Limits, Refusal};
 pub fn type_test(x: u64) -> Test
     ensures { result ≡ type_test x }
 {
-    read_fields::need(x % 16 <= 3, Refusal::Limit)
+    read_fields::need(read_fields::is_type(x), Refusal::Limit)
 }
 
 // A length of 0 or over the longest is refused.
@@ -82,11 +82,11 @@ pub fn text_at(lim: Limits, s: &[u8], before: Before, t: usize, n: usize) -> Nex
 
 // ---- marks, by which a text is known to be new without a search. A set of texts would need a heap, and the project has none
 // How many marks there are.
-const MARKS: usize = 2048;
+pub const MARKS: usize = 2048;
 
 // The mark of a text. By a loop, whose invariant says that the mark is small: the closure of a fold would have to say it in a contract.
 pub fn mark_of(text: &[u8]) -> usize
-    ensures { (result ≡ mark 0 text.now) × (result < 2048) }
+    ensures { (result ≡ mark 0 text.now) × (result < MARKS) }
 {
     let mut h = 0;
     for b in text {
@@ -98,25 +98,16 @@ pub fn mark_of(text: &[u8]) -> usize
 // The mark of the text of the name at p; any mark where the bytes end before the text does, since that name is refused with whatever mark: 0 and
 // no None, which would only be opened for it.
 pub fn mark_at(s: &[u8], p: usize) -> usize
-    ensures { (result < 2048) × (name_end s.now p ≤ length s.now → result ≡ mark 0 (name_from s.now p).text) }
+    ensures { (result < MARKS) × (name_end s.now p ≤ length s.now → result ≡ mark 0 (name_from s.now p).text) }
 {
     if read_fields::left(s, p) < 2 {
         return 0;
     }
-    // as: a number that is known to fit, or u64 and usize, which have no From; try_from would hand out an error that cannot be.
-    let n = byte_or(s, p + 1) as usize;
-    let t = p + 1 + 1;
-    if read_fields::left(s, t) < n {
+    let n = usize::from(read_fields::u8_at(s, p + 1));
+    if read_fields::left(s, p + 2) < n {
         return 0;
     }
-    mark_of(&s[t..t + n])
-}
-
-// How many of the k names before a text are searched for it: 0 where its mark m is not set, as a search of no name goes.
-pub fn to_search(m: u8, k: u64) -> u64
-    ensures { result ≡ cond (eqb m 0) 0 k }
-{
-    if m == 0 { 0 } else { k }
+    mark_of(read_layout::text_of(s, p))
 }
 
 // ---- names
@@ -127,6 +118,7 @@ pub fn name_at(lim: Limits, s: &[u8], before: Before, p: usize) -> Next
 {
     let (_, q) = type_field(s, p)?;
     let (n, t) = text_length_at(s, q, lim.text)?;
+    // as: the number fits, or u64 and usize have no From; try_from would give an error that cannot happen.
     text_at(lim, s, before, t, n as usize)
 }
 
@@ -138,9 +130,10 @@ pub fn names_at(lim: Limits, s: &[u8], at: usize, count: u64) -> Next
     let mut p = at;
     for i in 0..count {
         let h = mark_at(s, p);
+        // If the mark is not set, no earlier name has this text, so none is searched.
         let before = Before {
             from: at,
-            count: to_search(u8::from(seen[h]), i),
+            count: if seen[h] { i } else { 0 },
         };
         seen[h] = true;
         p = name_at(lim, s, before, p)?;

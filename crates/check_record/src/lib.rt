@@ -11,7 +11,7 @@ ghost use Rattle.check_record.specs.Parts.{names_and_blocks};
 
 use check_blocks::Counts;
 use read_fields::{Next, Num, Test, fault, field_tested, limited};
-use record::{Limits, Refusal};
+use record::{ARGS, BLOCKS, Limits, Refusal};
 
 // ---- tests
 // As many bytes as follow.
@@ -44,7 +44,7 @@ pub fn names_test(most: u64, args: u64, n: u64) -> Test
 pub fn length_at(s: &[u8], at: usize) -> Num
     ensures { res result ≡ length_field s.now at }
 {
-    // as: u64 and usize have no From; try_from would hand out an error that cannot be.
+    // as: u64 and usize have no From; try_from would give an error that cannot happen.
     let rest = read_fields::left(s, 4) as u64;
     field_tested::<4, _>(s, at, |l| length_test(rest, l))
 }
@@ -79,7 +79,8 @@ pub fn names_and_blocks_at(s: &[u8], at: usize, lim: Limits, width: usize, names
     ensures { result ≡ verdict (names_and_blocks lim width names s.now at) }
 {
     let p = check_names::names_at(lim, s, at, names)?;
-    let (blocks, q) = limited::<2>(s, p, 64)?;
+    // as: u64 and usize have no From; try_from would give an error that cannot happen.
+    let (blocks, q) = limited::<2>(s, p, BLOCKS as u64)?;
     check_blocks::check_blocks(
         s,
         q,
@@ -97,7 +98,7 @@ pub fn contents_at(s: &[u8], at: usize, lim: Limits) -> Next
     ensures { result ≡ verdict (contents lim s.now at) }
 {
     let (version, p) = version_at(s, at)?;
-    let (args, q) = limited::<1>(s, p, 16)?;
+    let (args, q) = limited::<1>(s, p, ARGS)?;
     let (names, t) = name_count_at(s, q, lim.names, args)?;
     names_and_blocks_at(s, t, lim, read_layout::id_bytes(version), names)
 }

@@ -1,13 +1,14 @@
 -- What the operands of an instruction are by their place, what each rule asks of them, and that each code's rule fits its shape.
 use Prim.Native.Nat.{ℕ, zero, suc, ◌+◌, ◌*◌, ◌<◌, ◌≤◌}
 use mathlib.Core.Path.{◌≡◌, refl, sym, ap, ◌∙◌, subst}
-use mathlib.Core.Logic.{◌≢◌}
-use mathlib.Core.List.{List, ◌∷◌, map}
+use mathlib.Core.List.{List, map}
 use mathlib.Core.Option.{Option, none, some}
-use mathlib.Core.Bool.{Bool, true, false, cond, not, ◌&&◌, and_assoc, and-false}
+use mathlib.Core.Bool.{Bool, true, false, ◌&&◌, and_assoc, and-false}
 use native.Mathlib.Omega.{arith}
+use Rattle.std.specs.Bool.{beq}
+use Rattle.std.specs.Cmp.{booleans_Decides}
 use native.Mathlib.Decide.{dec_lt}
-use lib.ListN.{get_or, drop, replicate}
+use lib.ListN.{get_or, replicate}
 use denote.Ref.{Bor}
 use lib.Dec.{eqb, eqb-suc-zero, eqb-zero-suc, eqb-suc-suc}
 use Rattle.arith.specs.Value.{tint, tbool, is_pointer}
@@ -24,36 +25,11 @@ use Rattle.record.specs.Decode.{items, behind, two_on, index_from, operands_from
 use Rattle.record.proofs.Tests.{and_left, and_right}
 use Rattle.record.proofs.Decode.{item_at, item_past, behind_two}
 use Rattle.record.proofs.Form.{row_beyond, all_below_at}
-use Rattle.record.proofs.Following.{ends_below, row_found}
 use Rattle.check_rules.specs.declared.operands.Operands.{Operands}
 use Rattle.check_rules.specs.declared.Rule.{Rule}
 use Rattle.check_rules.specs.Rules.{rule, code_rule, args_from, Kept}
 
--- ---- the rows of the rules
-pub rule_row :
-    (n m e c : ℕ) (x : typing.Rule) (rest : List (ℕ × typing.Rule)) →
-    ends_below n m rules ≡ true → drop n rules ≡ (e, x) ∷ rest → m ≤ c → c ≤ e →
-    x ≡ code_rule c
-unfolding code_rule
-rule_row n m e c x rest = row_found free n m e c x rules rest
-
--- the codes that every rule but free leaves out
-pub rule_free : (c : ℕ) → 14 < c → (20 < c → 39 < c) → c ≢ 65 → (69 < c → 71 < c) → free ≡ code_rule c
-unfolding code_rule
-rule_free c h g k l = go (dec_lt c 21) (dec_lt c 65) (dec_lt c 70)
-  where
-    go : Dec (c < 21) → Dec (c < 65) → Dec (c < 70) → free ≡ code_rule c
-    go (yes a) _ _ = rule_row 7 15 20 c _ _ refl refl (omega arith) (omega arith)
-    go (no a) (yes b) _ = rule_row 16 40 64 c _ _ refl refl (omega arith) (omega arith)
-    go (no a) (no b) (yes d) = rule_row 18 66 69 c _ _ refl refl (omega arith) (omega arith)
-    go (no a) (no b) (no d) = sym (row_beyond free rules 71 c refl (omega arith))
-
 -- ---- types
--- x: the index that stands at a place
-pub type_of_index : (types s : List ℕ) (at x r : ℕ) → x ≡ num_at s at 2 → r ≡ get_or types x 0 → r ≡ type_in types (index_from s at)
-unfolding type_in index_from
-type_of_index types s at x r e h = h ∙ ap (λ (k : ℕ). get_or types k 0) e
-
 -- an argument's type, by its number; n: the count
 module _ (types s : List ℕ) (at k n r : ℕ) (en : n ≡ num_at s at 1) where
   pub arg_there : k < n → r ≡ type_in types (index_from s (at + 1 + 2 * k)) → r ≡ type_in types (get_or (args_from s at) k (nm 0))
@@ -63,8 +39,8 @@ module _ (types s : List ℕ) (at k n r : ℕ) (en : n ≡ num_at s at 1) where
       item_at (index_from s) two_on (nm 0) k (num_at s at 1) (at + 1) (subst (λ (m : ℕ). k < m) en h) in
       e ∙ sym (ap (type_in types) (f ∙ ap (index_from s) (behind_two (at + 1) k)))
 
-  pub arg_past : n ≤ k → r ≡ get_or types 0 0 → r ≡ type_in types (get_or (args_from s at) k (nm 0))
-  unfolding type_in args_from
+  pub arg_past : n ≤ k → r ≡ type_in types (nm 0) → r ≡ type_in types (get_or (args_from s at) k (nm 0))
+  unfolding args_from
   arg_past h e =
       e ∙ sym (ap (type_in types) (item_past (index_from s) two_on (nm 0) k (num_at s at 1) (at + 1) (subst (λ (m : ℕ). m ≤ k) en h)))
 
@@ -201,17 +177,9 @@ parts frees = some (false, false)
 parts branches = some (false, false)
 parts (takes xs r) = some (true, false)
 
-abbrev agrees : Bool → Bool → Bool
-agrees a b = cond a b (not b)
-
 abbrev as_told : Option (Bool × Bool) → Shape → Bool
 as_told none sh = true
-as_told (some p) sh = agrees p.0 sh.dest && agrees p.1 sh.literal
-
-agrees_eq : (a b : Bool) → agrees a b ≡ true → b ≡ a
-agrees_eq true b e = e
-agrees_eq false true e = sym e
-agrees_eq false false e = refl
+as_told (some p) sh = beq p.0 sh.dest && beq p.1 sh.literal
 
 -- by the tables: past 71 every rule is free
 rule_told : (c : ℕ) → as_told (parts (code_rule c)) (shape_of c) ≡ true
@@ -243,10 +211,10 @@ module _
       r ≡ obeys (rule U) (type_in types.now) (operands_from sh s.now (at + w + 1) id code)) →
       r ≡ well_typed (type_in types.now) (instr_from w s.now at)
   typed_kept dest literal p k =
-      let told : (agrees dest (shape_of c).dest && agrees literal (shape_of c).literal) ≡ true =
+      let told : (beq dest (shape_of c).dest && beq literal (shape_of c).literal) ≡ true =
       ap (λ (o : Option (Bool × Bool)). as_told o (shape_of c)) (sym (ap parts (sym asked) ∙ p)) ∙ rule_told c in
-      let d = agrees_eq dest (shape_of c).dest (and_left _ _ told) in
-      let l = agrees_eq literal (shape_of c).literal (and_right (agrees dest (shape_of c).dest) _ told) in
+      let d = sym ((booleans_Decides dest (shape_of c).dest).0 (and_left _ _ told)) in
+      let l = sym ((booleans_Decides literal (shape_of c).literal).0 (and_right (beq dest (shape_of c).dest) _ told)) in
       k (shape_of c) (num_at s.now at w) c d l ∙ by_code
 
   pub typed_free : rule U ≡ free → true ≡ well_typed (type_in types.now) (instr_from w s.now at)

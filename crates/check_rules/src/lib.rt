@@ -33,6 +33,7 @@ pub enum Rule {
 
 // The rule of a code, by its number as the record has it, as read_shapes::shape_of: an Op would be made of it first, at each instruction, and has
 // no names for the codes 20 to 39.
+#[tactic(auto, unfolding(crate::specs::Rules::code_rule))]
 pub fn rule_of(code: u64) -> Rule
     ensures { rule result ≡ code_rule code }
 {
@@ -72,20 +73,20 @@ impl<'a> Operands<'a> {
     fn byte(&self, at: usize) -> u8
         ensures { result ≡ get_or self.now.bytes.now at 0 }
     {
-        // as: a number that is known to fit, or u64 and usize, which have no From; try_from would hand out an error that cannot be.
-        read_fields::byte_or(self.bytes, at) as u8
+        read_fields::u8_at(self.bytes, at)
     }
 
     // The type of the name whose index stands there.
+    #[tactic(auto, unfolding(record::specs::Decode::index_from))]
     pub fn index_type(&self, at: usize) -> u8
         requires { at + 1 < places }
         ensures { result ≡ type_in self.now.types.now (index_from self.now.bytes.now at) }
     {
-        let x = read_fields::be::<2>(self.bytes, at);
-        read_fields::byte_or(self.types, x as usize) as u8
+        read_fields::type_of(self.types, read_fields::be::<2>(self.bytes, at))
     }
 
     // The type of argument k, where the arguments' count stands there; that of name 0 where there is no such argument.
+    #[tactic(auto, using(crate::proofs::Laws::arg_there, crate::proofs::Laws::arg_past))]
     pub fn arg_type(&self, at: usize, k: usize) -> u8
         requires { at + 2 * k + 2 < places }
         ensures { result ≡ type_in self.now.types.now (get_or (args_from self.now.bytes.now at) k (nm 0)) }
@@ -93,7 +94,7 @@ impl<'a> Operands<'a> {
         if k < usize::from(self.byte(at)) {
             return self.index_type(at + 1 + 2 * k);
         }
-        read_fields::byte_or(self.types, 0) as u8
+        read_fields::type_of(self.types, 0)
     }
 
     // Whether each of the n names whose indexes stand from there on is of type t.
@@ -104,18 +105,19 @@ impl<'a> Operands<'a> {
         (0..usize::from(n)).all(|k| u64::from(self.index_type(at + 2 * k)) == t)
     }
 
-    // ---- the rules, by & and |: what stands on both sides is at hand, and each rule is one step of its proof. With && and || each was two or
-    // three, which the check did not find by itself
+    // ---- the rules
     // A literal fits its own type, an int literal also float.
+    #[tactic(auto, using(crate::proofs::Laws::kept_fits))]
     pub fn fits_dest(&self) -> bool
         ensures { Kept result fits_dest true true self.now }
     {
         let kind = self.byte(self.at + 2);
         let t = self.index_type(self.at);
-        (t == kind) | ((kind == INT) & (t == FLOAT))
+        t == kind || (kind == INT && t == FLOAT)
     }
 
     // Dest and argument have one type.
+    #[tactic(auto, using(crate::proofs::Laws::kept_copies))]
     pub fn copies(&self) -> bool
         ensures { Kept result copies true false self.now }
     {
@@ -123,25 +125,28 @@ impl<'a> Operands<'a> {
     }
 
     // A pointer and an int give a pointer of the same type.
+    #[tactic(auto, using(crate::proofs::Laws::kept_shifts))]
     pub fn shifts(&self) -> bool
         ensures { Kept result shifts true false self.now }
     {
         let p = self.arg_type(self.at + 2, 0);
         let n = self.arg_type(self.at + 2, 1);
         let t = self.index_type(self.at);
-        (POINTER <= p) & ((n == INT) & (t == p))
+        POINTER <= p && n == INT && t == p
     }
 
     // An int gives a pointer.
+    #[tactic(auto, using(crate::proofs::Laws::kept_allocates))]
     pub fn allocates(&self) -> bool
         ensures { Kept result allocates true false self.now }
     {
         let n = self.arg_type(self.at + 2, 0);
         let t = self.index_type(self.at);
-        (n == INT) & (POINTER <= t)
+        n == INT && POINTER <= t
     }
 
     // A pointer gives what it points to.
+    #[tactic(auto, using(crate::proofs::Laws::kept_loads))]
     pub fn loads(&self) -> bool
         ensures { Kept result loads true false self.now }
     {
@@ -149,6 +154,7 @@ impl<'a> Operands<'a> {
     }
 
     // phi: each argument has dest's type. There are as many as one byte can count.
+    #[tactic(auto, using(crate::proofs::Laws::kept_joins))]
     pub fn joins(&self) -> bool
         requires { self.now.at + joins_reach < places }
         ensures { Kept result joins true false self.now }
@@ -158,6 +164,7 @@ impl<'a> Operands<'a> {
     }
 
     // A pointer and what it points to; no dest stands before the arguments.
+    #[tactic(auto, using(crate::proofs::Laws::kept_stores))]
     pub fn stores(&self) -> bool
         ensures { Kept result stores false false self.now }
     {
@@ -165,6 +172,7 @@ impl<'a> Operands<'a> {
     }
 
     // A pointer.
+    #[tactic(auto, using(crate::proofs::Laws::kept_frees))]
     pub fn frees(&self) -> bool
         ensures { Kept result frees false false self.now }
     {
@@ -172,13 +180,15 @@ impl<'a> Operands<'a> {
     }
 
     // A bool.
+    #[tactic(auto, using(crate::proofs::Laws::kept_branches))]
     pub fn branches(&self) -> bool
         ensures { Kept result branches false false self.now }
     {
         self.arg_type(self.at, 0) == BOOL
     }
 
-    // n arguments of type a, a dest of type d.
+    // n arguments of type a, a dest of type d. a and d are u64, though a type is a byte: the promise is for any numbers, and bytes would ask more.
+    #[tactic(auto, using(crate::proofs::Laws::kept_takes))]
     pub fn takes(&self, n: u8, a: u64, d: u64) -> bool
         requires { self.now.at + 2 * n + 3 ≤ places }
         ensures { Kept result (takes (replicate n a) d) true false self.now }
@@ -186,7 +196,7 @@ impl<'a> Operands<'a> {
         let count = self.byte(self.at + 2);
         let args = self.each_is(self.at + 2 + 1, n, a);
         let t = u64::from(self.index_type(self.at));
-        (count == n) & (args & (t == d))
+        count == n && args && t == d
     }
 }
 

@@ -5,7 +5,7 @@ ghost use Rattle.read_fields.specs.Places.{places};
 
 // The bytes that the operands stand in, their place, and the type byte of each name.
 // A dest and a count with two arguments have seven bytes.
-#[derive(Clone, Copy)]
+#[derive(Clone, Copy, Debug)]
 pub struct Operands<'a> {
     pub bytes: &'a [u8],
     pub types: &'a [u8],

@@ -6,8 +6,6 @@ ghost use Rattle.record.specs.Text.{digit, letter, all_text, well_formed, undigi
 ghost use Rattle.record.specs.Decode.{behind, name_from, name_end};
 ghost use Rattle.read_layout.specs.Layout.{texts_from};
 
-use read_fields::byte_or;
-
 // ---- one byte, by the numbers of its letters and digits: is_ascii_digit and the like are of bytes, and any number may be asked here
 // 0 to 9.
 pub fn digit(b: u64) -> bool
@@ -100,14 +98,11 @@ pub struct Before {
 }
 
 // Whether the name at p has this text.
-#[tactic(auto, unfolding(record::specs::Decode::name_end))]
 pub fn same_name(s: &[u8], p: usize, text: &[u8]) -> bool
     requires { name_end s.now p ≤ length s.now }
     ensures { result ≡ same_bytes text.now (name_from s.now p).text }
 {
-    // as: a number that is known to fit, or u64 and usize, which have no From; try_from would hand out an error that cannot be.
-    let n = byte_or(s, p + 1) as usize;
-    same_bytes(text, &s[p + 2..p + 2 + n])
+    same_bytes(text, read_layout::text_of(s, p))
 }
 
 // Whether one of the names before has this text.

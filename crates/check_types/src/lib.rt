@@ -11,7 +11,7 @@ use read_fields::{Next, fault};
 use record::Refusal;
 
 // The bytes of a record, the type byte of each name, and the bytes of an id.
-#[derive(Clone, Copy)]
+#[derive(Clone, Copy, Debug)]
 pub struct Typed<'a> {
     pub bytes: &'a [u8],
     pub types: &'a [u8],
@@ -40,9 +40,8 @@ impl<'a> Typed<'a> {
         requires { at + block_reach < places }
         ensures { (result ≡ block_verdict self.now.width self.now.types.now self.now.bytes.now at) × IfOk result (λ q. q ≤ at + block_reach) }
     {
-        // as: a number that is known to fit, or u64 and usize, which have no From; try_from would hand out an error that cannot be.
-        let n = read_fields::be::<2>(self.bytes, at) as usize;
-        self.body_at(n, at + 2 + 2)
+        let (n, first) = read_layout::block_head(self.bytes, at);
+        self.body_at(n, first)
     }
 
     // The n blocks from a place on.

@@ -4,19 +4,20 @@
 ghost use Rattle.std.specs.Prelude.{◌≡◌, ◌≤◌};
 ghost use Rattle.record.specs.Record.{limits};
 ghost use Rattle.record.specs.Read.{read};
-ghost use Rattle.record.specs.Answer.{number, verdict, checked};
+ghost use Rattle.record.specs.Answer.{verdict, checked};
 ghost use Rattle.record.specs.Decode.{names_count};
 ghost use Rattle.checker.specs.Pass.{typed_verdict};
 
 use check_types::Typed;
-use record::{Fault, Limits, Refusal};
+use record::{Fault, Limits, NAMES};
 
 // The first pass: every field in the order read, with its tests.
 pub fn read(input: &[u8]) -> Result<usize, Fault>
     ensures { result ≡ verdict (read limits input.now 0) }
 {
     let limits = Limits {
-        names: 256,
+        // as: u64 and usize have no From; try_from would give an error that cannot happen.
+        names: NAMES as u64,
         text: 32,
         body: 256,
         made: false,
@@ -24,14 +25,14 @@ pub fn read(input: &[u8]) -> Result<usize, Fault>
     check_record::read_record(input, limits)
 }
 
-// The second pass: the table of the names' types, then the blocks. The table holds the types of 256 names, as many as a record may have.
+// The second pass: the table of the names' types, then the blocks.
+#[tactic(auto, using(crate::proofs::Laws::typed_is))]
 pub fn typed(s: &[u8]) -> Result<usize, Fault>
-    ensures { names_count s.now ≤ 256 → result ≡ typed_verdict s.now }
+    ensures { names_count s.now ≤ NAMES → result ≡ typed_verdict s.now }
 {
-    let mut types = [0u8; 256];
+    let mut types = [0u8; NAMES];
     // The names' places are not asked.
-    let mut places = [0u32; 0];
-    let head = read_layout::layout_of(s, &mut types, &mut places);
+    let head = read_layout::layout_of(s, &mut types, &mut []);
     let record = Typed {
         bytes: s,
         types: &types,
@@ -41,17 +42,11 @@ pub fn typed(s: &[u8]) -> Result<usize, Fault>
 }
 
 // Whether the bytes are a record of a function: accepted, or the reason and offset of the first fault.
+#[tactic(auto, using(crate::proofs::Laws::checked_refused))]
 pub fn check(input: &[u8]) -> Result<(), Fault>
     ensures { result ≡ checked input.now }
 {
     read(input)?;
     typed(input)?;
     Ok(())
-}
-
-// Document 01's number of a refusal.
-pub fn number_of(k: Refusal) -> u8
-    ensures { result ≡ number k }
-{
-    u8::from(k)
 }

@@ -1,10 +1,11 @@
 -- The operation of a code: that of the codes which have no operator, its code again, and its form.
-use Prim.Native.Nat.{ℕ, ◌≤◌}
-use mathlib.Core.Path.{◌≡◌, refl, sym}
+use Prim.Native.Nat.{ℕ, ◌<◌, ◌≤◌}
+use mathlib.Core.Path.{◌≡◌, refl, sym, ap, ◌∙◌}
 use mathlib.Core.List.{List, [], ◌∷◌}
-use mathlib.Core.Bool.{Bool, true, false, cond}
+use mathlib.Core.Bool.{Bool, true, false, cond, not}
 use mathlib.Core.Option.{Option, none, some}
 use native.Mathlib.Omega.{arith}
+use native.Mathlib.Decide.{dec_lt}
 use lib.Dec.{leb, eqb}
 use borrow.Author.Tests.{ne_eqb, le-leb, lt-leb, eqb-true}
 use Rattle.arith.specs.declared.One.{One}
@@ -18,6 +19,7 @@ use Rattle.record.specs.declared.Op.{Op}
 use Rattle.record.specs.Record.{Instr, arg}
 use Rattle.record.specs.Form.{Form, operation, form}
 use Rattle.record.specs.View.{code_of}
+use Rattle.record.proofs.Form.{all_below, all_below_at}
 use Rattle.codes.specs.Op.{operator, op_of, form_as}
 use Rattle.record.specs.declared.Op.TheVariants as op
 
@@ -103,6 +105,32 @@ module _ (c : ℕ) where
       (cond_code (eqb c 65) _ _ (λ e. sym (eqb-true c 65 e))
       (cond_code (eqb c 66) _ _ (λ e. sym (eqb-true c 66 e))
       (cond_code (eqb c 69) _ _ (λ e. sym (eqb-true c 69 e)) refl))))))
+
+  -- an operation of this code has no other
+  pub op_from : (o : Op) → o ≡ op_of c → c ≡ code_of o
+  op_from o e = sym op_code ∙ ap code_of (sym e)
+
+-- ---- tests of the operation of a code
+abbrev alike : Bool → Bool → Bool
+alike true b = b
+alike false b = not b
+
+alike_is : (a b : Bool) → alike a b ≡ true → a ≡ b
+alike_is true b e = sym e
+alike_is false true e = e
+alike_is false false e = refl
+
+-- one that is a test of the code: so it is up to 69, and behind that all are effects
+pub op_test :
+    (p : Op → Bool) (q : ℕ → Bool) → all_below 70 (λ c. alike (p (op_of c)) (q c)) ≡ true →
+    ((c : ℕ) → 70 ≤ c → p (op.Effect c) ≡ q c) → (c : ℕ) → p (op_of c) ≡ q c
+op_test p q low high c = go (dec_lt c 70)
+  where
+    go : Dec (c < 70) → p (op_of c) ≡ q c
+    go (yes l) = alike_is (p (op_of c)) (q c) (all_below_at 70 (λ k. alike (p (op_of k)) (q k)) low c l)
+    go (no n) =
+        ap p (sym (effect_op c (omega (arith, n)) (λ e. omega (arith, n, e)) (λ e. omega (arith, n, e)) (λ e. omega (arith, n, e)) (λ e. omega (arith, n, e)))) ∙
+        high c (omega (arith, n))
 
 -- ---- its form
 module _ (t : NameIx → ℕ) (i : Instr) where

@@ -1,68 +1,19 @@
-// The codes of operations, and the kinds and bits of literals.
+// The operations of codes, and the kinds and bits of literals.
 #![tactic(auto)]
 
 ghost use Rattle.std.specs.Prelude.{◌≡◌};
 ghost use Rattle.std.specs.Float.{binary64};
 ghost use Rattle.std.specs.Float.Ieee.{to_bits};
-ghost use Rattle.arith.specs.Code.{code1, code2};
 ghost use Rattle.record.specs.Good.{LitOk};
 ghost use Rattle.record.specs.Answer.{literal_of};
-ghost use Rattle.record.specs.View.{code_of};
 ghost use Rattle.codes.specs.Op.{op_of};
 
 use arith::{One, Two};
-use record::{Literal, Op};
-
-// ---- the code of an operation, by functions: code_of(op) says that the number is a code, where u8::from(op) would not
-#[tactic(auto, unfolding(arith::specs::Code::code1))]
-pub fn code1(o: One) -> u8
-    ensures { result ≡ code1 o }
-{
-    match o {
-        One::Not => 10,
-        One::Id => 13,
-    }
-}
-
-#[tactic(auto, unfolding(arith::specs::Code::code2))]
-pub fn code2(o: Two) -> u8
-    ensures { result ≡ code2 o }
-{
-    match o {
-        Two::Add => 1,
-        Two::Sub => 2,
-        Two::Mul => 3,
-        Two::Div => 4,
-        Two::Eq => 5,
-        Two::Lt => 6,
-        Two::Gt => 7,
-        Two::Le => 8,
-        Two::Ge => 9,
-        Two::And => 11,
-        Two::Or => 12,
-        Two::PtrAdd => 14,
-    }
-}
-
-#[tactic(auto, unfolding(record::specs::View::code_of))]
-pub fn code_of(op: Op) -> u8
-    ensures { result ≡ code_of op }
-{
-    match op {
-        Op::Const => 0,
-        Op::One(o) => code1(o),
-        Op::Two(o) => code2(o),
-        Op::New(c) => c,
-        Op::Effect(c) => c,
-        Op::Nop => 69,
-        Op::Jmp => 64,
-        Op::Br => 65,
-        Op::Ret => 66,
-    }
-}
+use record::{BOOL, CHAR, FLOAT, INT, Literal, Op};
 
 // ---- the operation of a code
-// All codes from 64 on but those of jmp, br, ret and nop are effects that ask the world.
+// All codes from 64 on but those of jmp, br, ret and nop are effects that ask the world. A function, and no From<u8> for Op: its definition stands
+// in codes, above record, where an impl of From for Op would have to stand.
 #[tactic(auto, using(crate::proofs::Op::new_op, crate::proofs::Op::effect_op), unfolding(crate::specs::Op::op_of, arith::specs::Opened::all_of_arith))]
 pub fn op_of(code: u8) -> Op
     ensures { result ≡ op_of code }
@@ -118,15 +69,16 @@ fn float_literal(b: u64) -> Literal
 }
 
 // The literal of this kind and these bits.
+#[tactic(auto, using(crate::proofs::Literal::of_int, crate::proofs::Literal::of_bool, crate::proofs::Literal::of_char, crate::proofs::Literal::char_fits))]
 pub fn literal_of(kind: u64, bits: u64) -> Literal
     requires { LitOk (record { kind = kind; bits = bits }) }
     ensures { literal_of result ≡ record { kind = kind; bits = bits } }
 {
-    match kind {
-        0 => Literal::Int(bits.cast_signed()),
-        1 => Literal::Bool(bits == 1),
-        2 => float_literal(bits),
-        // as: a number that is known to fit, or u64 and usize, which have no From; try_from would hand out an error that cannot be.
+    match u8::try_from(kind) {
+        Ok(INT) => Literal::Int(bits.cast_signed()),
+        Ok(BOOL) => Literal::Bool(bits == 1),
+        Ok(FLOAT) => float_literal(bits),
+        // as: the number fits, or u64 and usize have no From; try_from would give an error that cannot happen.
         _ => Literal::Char(bits as u32),
     }
 }
@@ -136,11 +88,10 @@ pub fn literal_kind(l: Literal) -> u8
     ensures { result ≡ (literal_of l).kind }
 {
     match l {
-        Literal::Int(_) => 0,
-        Literal::Bool(_) => 1,
-        Literal::Float(_) => 2,
-        Literal::Nan(_) => 2,
-        Literal::Char(_) => 3,
+        Literal::Int(_) => INT,
+        Literal::Bool(_) => BOOL,
+        Literal::Float(_) | Literal::Nan(_) => FLOAT,
+        Literal::Char(_) => CHAR,
     }
 }
 

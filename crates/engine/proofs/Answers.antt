@@ -3,8 +3,9 @@ use Prim.Native.Nat.{ℕ, ◌-◌, ◌<◌, ◌≤◌}
 use mathlib.Core.Path.{◌≡◌, refl, sym, ap, ◌∙◌}
 use mathlib.Core.Logic.{◌≢◌, ◌⊎◌, inl, inr}
 use mathlib.Core.List.{List, append-nil}
-use mathlib.Core.Bool.{Bool, true, false, cond, not, ◌||◌}
+use mathlib.Core.Bool.{Bool, true, false, cond, not}
 use native.Mathlib.Omega.{arith}
+use Rattle.std.proofs.lemmas.Bool.{or_parts}
 use native.Mathlib.Nat.{add-zero}
 use lib.ListN.{length}
 use lib.Dec.{ltb}
@@ -34,18 +35,11 @@ use Rattle.engine.specs.Opened.{Begun, Engine, told_on}
 use Rattle.engine.proofs.Begun.{stays, Fed}
 use Rattle.engine.proofs.Runs.{Finishes, finishes, fits_on, same_events, Reached, unfit_later, none_told, reaches}
 
--- one of the two rooms is too short, or neither is
+-- one of the two rooms is too short
 module _ (room more e l : ℕ) where
   pub short_by : (room < e) ⊎ ((e ≤ room) × (more < l)) → too_short room more e l ≡ true
   short_by (inl h) = rw (lt-ltb room e h) refl
   short_by (inr h) = rw (le-ltb room e h.0, lt-ltb more l h.1) refl
-
-  pub enough_by : e ≤ room → l ≤ more → too_short room more e l ≡ false
-  enough_by h k = rw (le-ltb room e h, le-ltb more l k) refl
-
-neither : (a b : Bool) → (a || b) ≡ false → (a ≡ false) × (b ≡ false)
-neither true b e = absurd (cc e)
-neither false b e = (refl, e)
 
 -- ---- by where the run is at its end
 module _
@@ -133,7 +127,7 @@ module _
             Engine s store list t₀.more events left events' left' (done t.event size steps how)
         unfolding engine_events engine_store store_left
         done_answer enough ee el es eh =
-            let room = neither (ltb (length events) t.event) (ltb (length left) size) enough in
+            let room = or_parts (ltb (length events) t.event) (ltb (length left) size) enough in
             let le : t.event ≤ length events = ltb-false (length events) t.event room.0 in
             let ll : size ≤ length left = ltb-false (length left) size room.1 in
             let o = outcome limits s store list t₀.more in

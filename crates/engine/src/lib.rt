@@ -1,6 +1,6 @@
 // Running an accession: the plain machine over a record, a starting store and a list of answers, up to a limit of steps. What a run comes to
 // is learnt first; then it is run again from its first event on, and its events are written.
-// as: a number that is known to fit, or u64 and usize, which have no From; try_from would hand out an error that cannot be.
+// as: u64 and usize have no From; try_from would give an error that cannot happen.
 #![tactic(auto)]
 
 ghost use Rattle.std.specs.Prelude.{◌≡◌, Ok};
@@ -8,13 +8,11 @@ ghost use Rattle.record.specs.Answer.{checked};
 ghost use Rattle.running.specs.Engine.{engine, engine_events, engine_store};
 ghost use Rattle.engine.specs.Opened.{ended_by, Opened, Begun, Engine};
 
-use engine_cells::{Cells, NAMES};
+use engine_cells::Cells;
 use engine_events::Turn;
 use engine_quiet::{Ground, Over, Spot};
+use record::{BLOCKS, NAMES};
 use running::{Ending, Run, RunError};
-
-// As many blocks as a record can have.
-const BLOCKS: usize = 64;
 
 // How a run ended, by where it stands or how it is over; or that an answer did not fit.
 fn ending(spot: Result<Spot, Over>) -> Result<Ending, RunError>
@@ -86,7 +84,7 @@ fn run_opened(
     let t = Turn {
         spot: engine_quiet::land(g, 0),
         more: limit,
-        answer: 5,
+        answer: engine_house::ITEMS,
         answers,
         event: 0,
         tells: false,
@@ -108,8 +106,7 @@ fn run_accepted(
         events.old left.old events.new left.new result }
 {
     let mut types = [0u8; NAMES];
-    let mut places = [0u32; NAMES];
-    let head = read_layout::layout_of(s, &mut types, &mut places);
+    let head = read_layout::layout_of(s, &mut types, &mut []);
     let mut starts = [0u32; BLOCKS];
     read_layout::fill_blocks(s, head.width, &mut starts, head.blocks, head.end + 2);
     let g = Ground {

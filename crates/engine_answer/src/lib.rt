@@ -1,5 +1,5 @@
 // The engine's answer in numbers, for those who hand it on.
-// as: a number that is known to fit, or u64 and usize, which have no From; try_from would hand out an error that cannot be.
+// as: the number fits, or u64 and usize have no From; try_from would give an error that cannot happen.
 #![tactic(auto)]
 
 ghost use Rattle.std.specs.Prelude.{◌≡◌, ◌≤◌, length, take};
@@ -10,6 +10,8 @@ use running::{Ending, Run, RunError};
 
 // The answer's number, its values with 0 where it has none, and how many it has. The values are the bytes of the events and of the store, the
 // steps, how the run ended, and the id of a division; of a refusal the first is its offset; of 14 the first two are the bytes needed.
+// Five values and a count, since there is no heap: C lends five places, and has 0 where there is no value; the program writes only those that
+// there are, by `given`.
 #[derive(Clone, Copy, PartialEq, Eq, Debug)]
 pub struct Numbers {
     pub number: u8,

@@ -93,13 +93,6 @@ module _
       ap (λ (y : ℕ). size_on (size + y) rest) g ∙ size_cons size (cell_value c) rest ∙
       sym (ap (size_on size) (first_name ∙ ap (λ (o : Option Val). read_cons o rest) (some_in cells x c ec k)))
 
-pub size_most : (kind z : ℕ) → z ≡ cond (leb kind held) 9 17 → z ≤ 17
-size_most kind z e = go (leb kind held) e
-  where
-    go : (b : Bool) → z ≡ cond b 9 17 → z ≤ 17
-    go true f = omega (arith, f)
-    go false f = omega (arith, f)
-
 pub size_done :
     (σ : Store) (s : List ℕ) (at n i size : ℕ) → n ≤ i → Some size ≡ size_on size (read_on σ s at n i)
 unfolding size_on join

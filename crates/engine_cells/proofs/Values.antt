@@ -7,9 +7,9 @@ use mathlib.Core.Logic.{◌≢◌}
 use native.Mathlib.Omega.{arith}
 use lib.ListN.{length, length-append}
 use lib.Dec.{leb, eqb}
-use borrow.Author.Tests.{leb-true, leb-false}
+use borrow.Author.Tests.{leb-true, leb-false, le-leb, lt-leb}
 use Rattle.std.specs.Int.{from_bool}
-use Rattle.arith.specs.Value.{Val, int, float, literal, char, bool, pointer}
+use Rattle.arith.specs.Value.{Val, pointer}
 use Rattle.record.specs.Write.{be, join}
 use Rattle.record.proofs.Stands.{length_be}
 use Rattle.write_bytes.specs.Put.{put, Wrote}
@@ -87,19 +87,6 @@ value_by_length kind word offset = go (leb kind held)
     go true = omega (arith, value_length (plain_from kind word), plain_length kind word)
     go false = omega (arith, value_length (pointer kind word offset), pointer_length kind word offset)
 
--- any value
-words_most : (v : Val) → length (words v) ≤ 16
-unfolding words
-words_most (int w) = omega (arith, length_be 8 w)
-words_most (float b) = omega (arith, length_be 8 b)
-words_most (literal w) = omega (arith, length_be 8 w)
-words_most (char c) = omega (arith, length_be 8 c)
-words_most (bool b) = omega (arith, length_be 8 (cond b 1 0))
-words_most (pointer t b o) = omega (arith, pointer_length t b o)
-
-pub value_most : (v : Val) → length (value_bytes v) ≤ 17
-value_most v = omega (arith, value_length v, words_most v)
-
 -- ---- the bytes
 module _ (kind word offset : ℕ) where
   pub plain_bytes : kind ≤ held → value_bytes (value_by kind word offset) ≡ join (be 1 kind ∷ words (plain_from kind word) ∷ [])
@@ -125,25 +112,35 @@ module _ {l m n : List ℕ} {i : ℕ} (kind word offset : ℕ) where
       be 8 x ≡ words (plain_from kind word) →
       m ≡ put l i (be 1 kind) →
       n ≡ put m (i + 1) (be 8 x) →
-      Wrote l n i (i + 9) (value_bytes (value_by kind word offset))
+      Wrote l n i (i + cond (leb kind held) 9 17) (value_bytes (value_by kind word offset))
   plain_wrote x h e a b =
-      subst (Wrote l n i (i + 9))
+      rw (le-leb kind held h)
+      (subst (Wrote l n i (i + 9))
       (ap (λ (w : List ℕ). join (be 1 kind ∷ w ∷ [])) e ∙ sym (plain_bytes kind word offset h))
-      (wrote_join (be 1 kind) (be 8 x ∷ []) (wrote_number 1 kind a) (wrote_last (be 8 x) (wrote_eight x (omega arith) b)))
+      (wrote_join (be 1 kind) (be 8 x ∷ []) (wrote_number 1 kind a) (wrote_last (be 8 x) (wrote_eight x (omega arith) b))))
 
   pub pointer_wrote :
       {o : List ℕ} → held < kind →
       m ≡ put l i (be 1 kind) →
       n ≡ put m (i + 1) (be 8 word) →
       o ≡ put n (i + 9) (be 8 offset) →
-      Wrote l o i (i + 17) (value_bytes (value_by kind word offset))
+      Wrote l o i (i + cond (leb kind held) 9 17) (value_bytes (value_by kind word offset))
   pointer_wrote {o} h a b c =
       let two = join (be 8 word ∷ be 8 offset ∷ []) in
       let second : Wrote n o (i + 9) (i + 17) (be 8 offset) = wrote_eight offset (omega arith) c in
       let first : Wrote m n (i + 1) (i + 9) (be 8 word) = wrote_eight word (omega arith) b in
-      subst (Wrote l o i (i + 17)) (sym (pointer_bytes kind word offset h))
+      rw (lt-leb kind held h)
+      (subst (Wrote l o i (i + 17)) (sym (pointer_bytes kind word offset h))
       (wrote_join (be 1 kind) (two ∷ []) (wrote_number 1 kind a)
-      (wrote_last two (wrote_join (be 8 word) (be 8 offset ∷ []) first (wrote_last (be 8 offset) second))))
+      (wrote_last two (wrote_join (be 8 word) (be 8 offset ∷ []) first (wrote_last (be 8 offset) second)))))
+
+-- z bytes are at most 17
+pub size_most : (kind z : ℕ) → z ≡ cond (leb kind held) 9 17 → z ≤ 17
+size_most kind z e = go (leb kind held) e
+  where
+    go : (b : Bool) → z ≡ cond b 9 17 → z ≤ 17
+    go true f = omega (arith, f)
+    go false f = omega (arith, f)
 
 -- the value of a name, whose cell was read
 pub value_in_wrote :

@@ -1,5 +1,5 @@
 // The store of a running function: a cell for each name, and the values of a row of names, measured and written.
-// as: a number that is known to fit, or u64 and usize, which have no From; try_from would hand out an error that cannot be.
+// as: u64 and usize have no From; try_from would give an error that cannot happen.
 #![tactic(auto)]
 
 ghost use Rattle.std.specs.Prelude.{◌≡◌, cond, ℕ, ◌+◌, ◌*◌, ◌<◌, ◌≤◌, leb};
@@ -16,22 +16,10 @@ ghost use Rattle.read_fields.specs.Places.{places};
 ghost use Rattle.write_bytes.specs.Put.{Wrote};
 ghost use Rattle.engine_cells.specs.Cells.{cell_holds, cell_in, int_held, bool_held, value_in, store_in, row_from, size_of, RowWritten};
 
-// The type bytes of int, bool and char, and of an int literal held by a float, which is the last without a pointer; the least of a pointer;
-// and nothing, as the house form has them.
-pub const INT: u8 = 0x00;
-
-pub const BOOL: u8 = 0x01;
-
-pub const CHAR: u8 = 0x03;
-
+// The type byte of an int literal held by a float, which is the last without a pointer, and the byte of nothing, as the house form has them.
 pub const HELD: u8 = 0x04;
 
-pub const POINTER: u8 = 0x10;
-
 pub const NOTHING: u8 = 0xFF;
-
-// As many names as a record can have.
-pub const NAMES: usize = 256;
 
 // What a name holds: the type byte of its value, or that of nothing; its word, or a pointer's base; and a pointer's offset. The kind stays a
 // byte, and the store has its parts in arrays of their own: an array of whole cells took 1.38 times the time in a loop of arithmetic, and one of
@@ -45,22 +33,24 @@ pub struct Cell {
 
 impl Cell {
     // A cell of an int.
+    #[tactic(auto, unfolding(crate::specs::Cells::held_by, crate::specs::Cells::value_by, running::specs::Items::plain_from))]
     pub fn int(word: u64) -> Cell
         ensures { cell_holds result ≡ some (int word) }
     {
         Cell {
-            kind: INT,
+            kind: record::INT,
             word,
             offset: 0,
         }
     }
 
     // A cell of a bool.
+    #[tactic(auto, unfolding(crate::specs::Cells::held_by, crate::specs::Cells::value_by, running::specs::Items::plain_from))]
     pub fn bool(b: bool) -> Cell
         ensures { cell_holds result ≡ some (bool b) }
     {
         Cell {
-            kind: BOOL,
+            kind: record::BOOL,
             word: u64::from(b),
             offset: 0,
         }
@@ -83,10 +73,11 @@ pub fn value_size(kind: u8) -> usize
 }
 
 // The word of a value that is no pointer, as it is written: that of a bool is 0 or 1.
+#[tactic(auto, using(crate::proofs::Values::word_of_bool, crate::proofs::Values::word_of_plain))]
 fn written_word(kind: u8, word: u64) -> u64
     ensures { be 8 result ≡ words (plain_from kind word) }
 {
-    if kind == BOOL {
+    if kind == record::BOOL {
         u64::from(word != 0)
     } else {
         word
@@ -105,6 +96,7 @@ pub struct Cells<const N: usize> {
 
 impl<const N: usize> Cells<N> {
     // No name is set.
+    #[tactic(auto, using(crate::proofs::Store::held_none, crate::proofs::Store::replicated), unfolding(crate::specs::Cells::store_in))]
     pub fn new() -> Cells<N>
         ensures { (x : NameIx) → store_in result x ≡ none }
     {
@@ -133,22 +125,25 @@ impl<const N: usize> Cells<N> {
     }
 
     // The int that a name holds.
+    #[tactic(auto, using(crate::proofs::ByKind::int_by, crate::proofs::Store::held_in))]
     pub fn int(&self, x: u64) -> Option<u64>
         ensures { result ≡ int_held (store_in self.now (nm x)) }
     {
         let c = self.get(x);
-        (c.kind == INT).then_some(c.word)
+        (c.kind == record::INT).then_some(c.word)
     }
 
     // The bool that a name holds.
+    #[tactic(auto, using(crate::proofs::ByKind::bool_by, crate::proofs::Store::held_in))]
     pub fn bool(&self, x: u64) -> Option<bool>
         ensures { result ≡ bool_held (store_in self.now (nm x)) }
     {
         let c = self.get(x);
-        (c.kind == BOOL).then_some(c.word != 0)
+        (c.kind == record::BOOL).then_some(c.word != 0)
     }
 
     // A name given what a cell holds.
+    #[tactic(auto, using(crate::proofs::Store::set_store))]
     pub fn set_cell(&mut self, x: u64, c: Cell)
         requires { x < N }
         ensures { store_in self.new ≡ upd NameIx-discrete (store_in self.old) (nm x) (cell_holds c) }
@@ -160,6 +155,7 @@ impl<const N: usize> Cells<N> {
     }
 
     // A name given a value that is no pointer.
+    #[tactic(auto, using(crate::proofs::Store::held_plain))]
     pub fn set_plain(&mut self, x: u64, kind: u8, word: u64)
         requires { (x < N) × (kind ≤ held) }
         ensures { store_in self.new ≡ upd NameIx-discrete (store_in self.old) (nm x) (some (plain_from kind word)) }
@@ -183,21 +179,21 @@ impl<const N: usize> Cells<N> {
         write_bytes::put_u8(out, at, c.kind);
         if c.kind <= HELD {
             write_bytes::put_u64(out, at + 1, written_word(c.kind, c.word));
-            return at + 9;
+        } else {
+            write_bytes::put_u64(out, at + 1, c.word);
+            write_bytes::put_u64(out, at + 9, c.offset);
         }
-        write_bytes::put_u64(out, at + 1, c.word);
-        write_bytes::put_u64(out, at + 9, c.offset);
-        at + 17
+        at + value_size(c.kind)
     }
 
     // ---- rows of names: n indexes of two bytes from a place of the record on, each read by its place, since bytes past the end count as 0
     // How many bytes their values have, if each is set.
-    pub fn row_size(&self, s: &[u8], at: usize, n: u64) -> Option<usize>
-        requires { (at + 2 * n < places) × (n ≤ 255) }
+    pub fn row_size(&self, s: &[u8], at: usize, n: u8) -> Option<usize>
+        requires { at + 2 * n < places }
         ensures { (result ≡ size_of (read_all (store_in self.now) (row_from s.now at n))) × ((k : ℕ) → result ≡ Some k → k ≤ 17 * n) }
     {
         let mut size = 0;
-        for i in 0..n as usize {
+        for i in 0..usize::from(n) {
             let kind = self.get(read_fields::be::<2>(s, at + 2 * i)).kind;
             if kind == NOTHING {
                 return None;
@@ -208,12 +204,12 @@ impl<const N: usize> Cells<N> {
     }
 
     // Their values one after the other, if each is set.
-    pub fn put_row(&self, s: &[u8], at: usize, n: u64, out: &mut [u8], to: usize)
-        requires { (at + 2 * n < places) × ((n ≤ 255) × (to + 17 * n < places)) }
+    pub fn put_row(&self, s: &[u8], at: usize, n: u8, out: &mut [u8], to: usize)
+        requires { (at + 2 * n < places) × (to + 17 * n < places) }
         ensures { RowWritten out.old out.new to (read_all (store_in self.now) (row_from s.now at n)) }
     {
         let mut q = to;
-        for i in 0..n as usize {
+        for i in 0..usize::from(n) {
             q = self.put_value(read_fields::be::<2>(s, at + 2 * i), out, q);
         }
     }

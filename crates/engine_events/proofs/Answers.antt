@@ -1,18 +1,15 @@
 -- The world's answers: whether one fits, the answers left, and what an answer does to the run.
-use Prim.Native.Nat.{ℕ, ◌-◌, ◌<◌, ◌≤◌}
+use Prim.Native.Nat.{ℕ, ◌-◌, ◌<◌}
 use mathlib.Core.Path.{◌≡◌, refl, sym, ap, ◌∙◌, subst}
 use mathlib.Core.Logic.{◌≢◌}
 use mathlib.Core.List.{List, [], ◌∷◌, ◌++◌}
-use mathlib.Core.Bool.{Bool, true, false}
+use mathlib.Core.Bool.{Bool, true, false, not}
 use mathlib.Core.Option.{Option}
-use lib.Dec.{leb, ltb}
-use lib.ListN.{get_or}
-use borrow.Author.Tests.{ltb-true, ltb-false, lt-leb, le-leb, lt-ltb, le-ltb}
 use Rattle.arith.specs.Map.{upd}
 use Rattle.arith.specs.Value.{Val, has_type}
 use Rattle.arith.proofs.Clash.{clash}
 use Rattle.record.specs.declared.NameIx.{NameIx}
-use Rattle.record.specs.Record.{nm, NameIx-discrete, Instr, type_in}
+use Rattle.record.specs.Record.{nm, NameIx-discrete, Instr}
 use Rattle.record.specs.Reader.{num_at}
 use Rattle.record.specs.Decode.{items, index_from}
 use Rattle.record.proofs.Rows.{one_more}
@@ -26,53 +23,44 @@ use Rattle.engine_cells.proofs.Store.{held_some}
 use Rattle.engine_house.specs.declared.Answer.{Answer as Told}
 use Rattle.engine_house.specs.declared.Answer.TheVariants.{GoOn, Halt, Value}
 use Rattle.engine_house.specs.Reads.{Sure, answer_of}
-use Rattle.engine_events.specs.Replies.{has_dest, reply, fits_reply, given, Known}
+use Rattle.engine_events.specs.Replies.{reply, fits_reply, given, Known}
 
 -- ---- dest, whose index x stands at a place
-pub dest_type : (types s : List ℕ) (at x r : ℕ) → x ≡ num_at s at 2 → r ≡ get_or types x 0 → r ≡ type_in types (index_from s at)
-unfolding type_in index_from
-dest_type types s at x r e f = f ∙ ap (λ (k : ℕ). get_or types k 0) e
-
 pub dest_name : (s : List ℕ) (at x : ℕ) → x ≡ num_at s at 2 → nm x ≡ index_from s at
 unfolding index_from
 dest_name s at x e = ap nm e
 
--- ---- what takes says; ty: the type of dest
-module _ (code ty : ℕ) (σ : Store) (d : NameIx) where
+-- ---- what takes says; b: whether there is a dest, ty: its type
+module _ (b : Bool) (ty : ℕ) (σ : Store) (d : NameIx) where
   abbrev Fits : Told → Bool
-  Fits x = fits_reply (has_dest code) ty (answer_of x ∷ [])
+  Fits x = fits_reply b ty (answer_of x ∷ [])
 
   abbrev after : Told → Store
-  after x = given (has_dest code) (answer_of x) σ d
+  after x = given b (answer_of x) σ d
 
   -- go on alone is for what has no dest
-  pub takes_go_on : (leb 64 code ≡ Fits GoOn) × (leb 64 code ≡ true → σ ≡ after GoOn)
+  pub takes_go_on : (not b ≡ Fits GoOn) × (not b ≡ true → σ ≡ after GoOn)
   unfolding fits_reply fits_value fits_effect given
-  takes_go_on = go (ltb code 64) refl
+  takes_go_on = go b
     where
-      go :
-          (b : Bool) → ltb code 64 ≡ b →
-          (leb 64 code ≡ fits_reply b ty (go_on ∷ [])) × (leb 64 code ≡ true → σ ≡ given b go_on σ d)
-      go true e = (lt-leb 64 code (ltb-true code 64 e), λ _. refl)
-      go false e = (le-leb 64 code (ltb-false code 64 e), λ _. refl)
+      go : (b : Bool) → (not b ≡ fits_reply b ty (go_on ∷ [])) × (not b ≡ true → σ ≡ given b go_on σ d)
+      go true = (refl, λ _. refl)
+      go false = (refl, λ _. refl)
 
   pub takes_halt : (true ≡ Fits Halt) × (true ≡ true → σ ≡ after Halt)
   unfolding fits_reply fits_value fits_effect given
-  takes_halt = go (ltb code 64)
+  takes_halt = go b
     where
       go : (b : Bool) → (true ≡ fits_reply b ty (halt ∷ [])) × (true ≡ true → σ ≡ given b halt σ d)
       go true = (refl, λ _. refl)
       go false = (refl, λ _. refl)
 
   module _ (c : Cell) where
-    pub takes_none : 64 ≤ code → false ≡ Fits (Value c)
+    pub takes_none : b ≡ false → false ≡ Fits (Value c)
     unfolding fits_reply fits_effect
-    takes_none h = sym (ap (λ (b : Bool). fits_reply b ty (value (cell_value c) ∷ [])) (le-ltb code 64 h))
+    takes_none h = sym (ap (λ (b : Bool). fits_reply b ty (value (cell_value c) ∷ [])) h)
 
-    module _ (l : code < 64) where
-      has : has_dest code ≡ true
-      has = lt-ltb code 64 l
-
+    module _ (has : b ≡ true) where
       pub takes_fits : Fits (Value c) ≡ has_type ty (cell_value c)
       unfolding fits_reply fits_value
       takes_fits = ap (λ (b : Bool). fits_reply b ty (value (cell_value c) ∷ [])) has

@@ -1,21 +1,20 @@
 -- An event's bytes: its parts written one behind the other, how many they are, and what is left out past the end of the output.
 use Prim.Native.Nat.{ℕ, ◌+◌, ◌*◌, ◌^◌, ◌<◌, ◌≤◌}
 use mathlib.Core.Path.{◌≡◌, refl, sym, ap, ◌∙◌, subst}
-use mathlib.Core.List.{List, [], ◌∷◌, ◌++◌, append-nil}
-use mathlib.Core.Bool.{true, cond}
+use mathlib.Core.List.{List, [], ◌++◌, append-nil}
+use mathlib.Core.Bool.{Bool, true, cond}
 use mathlib.Core.Option.{Option, none, some}
 use native.Mathlib.Omega.{arith}
+use Rattle.running.proofs.Bounds.{read_all_length}
 use lib.ListN.{length, length-append}
-use lib.Dec.{ltb}
 use Rattle.arith.specs.Value.{Val}
-use Rattle.arith.proofs.Clash.{clash}
 use Rattle.record.specs.declared.NameIx.{NameIx}
 use Rattle.record.specs.Reader.{num_at}
 use Rattle.record.specs.Write.{be, join}
 use Rattle.record.specs.Decode.{id_width, names_count, index_from, two_on}
 use Rattle.record.proofs.Stands.{length_be}
 use Rattle.record.proofs.Decode.{length_items}
-use Rattle.machine.specs.Machine.{Store, Event, event_of, read_cons, read_all}
+use Rattle.machine.specs.Machine.{Event, event_of, read_all}
 use Rattle.running.specs.House.{event_bytes}
 use Rattle.read_fields.specs.Places.{places}
 use Rattle.write_bytes.specs.Put.{put, Wrote}
@@ -27,25 +26,12 @@ use Rattle.engine_cells.specs.declared.Cells.{Cells}
 use Rattle.engine_cells.specs.Cells.{store_in, row_from, values_bytes, size_of, RowWritten}
 use Rattle.engine_quiet.specs.Spot.{code_at}
 use Rattle.engine_quiet.proofs.Operands.{id_is, code_is}
-use Rattle.engine_events.specs.Turn.{instr_at, count_place, args_at, Loud, EventPut, EventAs}
+use Rattle.engine_quiet.specs.declared.Ground.{Ground}
+use Rattle.engine_quiet.specs.declared.Spot.{Spot}
+use Rattle.engine_events.specs.declared.Turn.{Turn}
+use Rattle.engine_events.specs.Turn.{instr_at, count_place, args_at, Going, Loud, EventPut, EventAs}
 use Rattle.engine_events.specs.Replies.{has_dest, has_callee, Near}
 use Rattle.engine_events.proofs.Operands.{callee_is, row_inside, place_after, few, dest_named}
-
--- ---- as many values as names
-pub read_length : (σ : Store) (xs : List NameIx) (vs : List Val) → read_all σ xs ≡ some vs → length vs ≡ length xs
-unfolding read_all
-read_length σ [] vs e = let d : vs ≡ [] = sym (cc e) in ap length d
-read_length σ (x ∷ xs) vs e = go (λ ws f. read_length σ xs ws f) (σ x) (read_all σ xs) refl e
-  where
-    go :
-        ((ws : List Val) → read_all σ xs ≡ some ws → length ws ≡ length xs) →
-        (o : Option Val) (p : Option (List Val)) → read_all σ xs ≡ p → read_cons o p ≡ some vs → length vs ≡ length (x ∷ xs)
-    go rest none p f g = clash (cc g)
-    go rest (some v) none f g = clash (cc g)
-    go rest (some v) (some ws) f g =
-        let d : vs ≡ v ∷ ws = sym (cc g) in
-        let k : length ws ≡ length xs = rest ws f in
-        ap length d ∙ omega (arith, k)
 
 -- ---- the parts of an event; w: the bytes of an id
 module _ (w : ℕ) (e : Event) where
@@ -100,7 +86,7 @@ module _ {s : List ℕ} {at : ℕ} (h : Loud s at) where
 
   -- w: the bytes of an id
   module _ (w : ℕ) (ew : w ≡ id_width s) where
-    pub near_by : length s * 1 < 2 ^ 63 → (w ≤ 8) × (at + 2048 < places)
+    near_by : length s * 1 < 2 ^ 63 → (w ≤ 8) × (at + 2048 < places)
     near_by g =
         let n = near g in
         let r : count_place s at + 1 + 2 * num_at s (count_place s at) 1 ≤ length s = row_inside h in
@@ -116,11 +102,10 @@ module _ {s : List ℕ} {at : ℕ} (h : Loud s at) where
 
     -- dest has a cell
     pub dest_cell :
-        (code : ℕ) → code ≡ num_at s (at + w) 1 → names_count s ≤ 256 →
-        has_dest code ≡ true → num_at s (at + w + 1) 2 < 256
-    dest_cell code ec n e =
-        let ko : code ≡ code_at s at = ec ∙ ap (λ (k : ℕ). num_at s (at + k) 1) ew in
-        let d : num_at s (at + id_width s + 1) 2 < names_count s = dest_named h (ap has_dest (sym ko) ∙ e) in
+        (has : Bool) → has ≡ has_dest (code_at s at) → names_count s ≤ 256 →
+        has ≡ true → num_at s (at + w + 1) 2 < 256
+    dest_cell has eh n e =
+        let d : num_at s (at + id_width s + 1) 2 < names_count s = dest_named h (sym eh ∙ e) in
         let f : num_at s (at + w + 1) 2 ≡ num_at s (at + id_width s + 1) 2 = ap (λ (k : ℕ). num_at s (at + k + 1) 2) ew in
         omega (arith, d, f, n)
 
@@ -133,11 +118,12 @@ module _ {s : List ℕ} {at : ℕ} (h : Loud s at) where
     args_by = λ i. row_from s (er i + 1) (count_is i)
 
     pub event_put :
-        (cells : Cells 256) (l : List ℕ) {a b c d : List ℕ} (m : List ℕ) (w to id code callee : ℕ) →
+        (cells : Cells 256) (l : List ℕ) {a b c d : List ℕ} (m : List ℕ) (w to id code callee : ℕ) (calls : Bool) →
         w ≡ id_width s →
         id ≡ num_at s at w →
-        code ≡ num_at s (at + w) 1 →
-        callee ≡ cond (has_callee code) (num_at s (row + 1 + 2 * n) 2) 0 →
+        code ≡ code_at s at →
+        calls ≡ has_callee (code_at s at) →
+        callee ≡ cond calls (num_at s (row + 1 + 2 * n) 2) 0 →
         a ≡ put l to (be w id) →
         b ≡ put a (to + w) (be 1 code) →
         c ≡ put b (to + w + 1) (be 2 callee) →
@@ -145,7 +131,7 @@ module _ {s : List ℕ} {at : ℕ} (h : Loud s at) where
         RowWritten d m (to + w + 4) (read_all (store_in cells) (row_from s (row + 1) n)) →
         EventPut s at l m to (read_all (store_in cells) (args_at s at))
     unfolding RowWritten EventPut
-    event_put cells l {a} {b} {c} {d} m w to id code callee ew ei eo ec pa pb pc pd out =
+    event_put cells l {a} {b} {c} {d} m w to id code callee calls ew ei ko eh ec pa pb pc pd out =
         go (read_all (store_in cells) (args_at s at)) refl
         (subst (λ (xs : List NameIx). RowWritten d m (to + w + 4) (read_all (store_in cells) xs)) args_by out)
       where
@@ -157,10 +143,9 @@ module _ {s : List ℕ} {at : ℕ} (h : Loud s at) where
         go (some vs) e r =
             let f : n ≡ length vs =
             count_is ∙
-            sym (read_length (store_in cells) (args_at s at) vs e ∙ length_items (index_from s) two_on (num_at s (count_place s at) 1) (count_place s at + 1)) in
-            let ko : code ≡ code_at s at = eo ∙ ap (λ (k : ℕ). num_at s (at + k) 1) ew in
+            sym (read_all_length (store_in cells) (args_at s at) vs e ∙ length_items (index_from s) two_on (num_at s (count_place s at) 1) (count_place s at + 1)) in
             let k : callee ≡ (instr_at s at).callee =
-            ec ∙ (λ i. cond (has_callee (ko i)) (num_at s (er i + 1 + 2 * count_is i) 2) 0) ∙ sym (callee_is h) in
+            ec ∙ (λ i. cond (eh i) (num_at s (er i + 1 + 2 * count_is i) 2) 0) ∙ sym (callee_is h) in
             event_wrote w (event_of (instr_at s at) vs) l to
             (pa ∙ ap (λ (x : ℕ). put l to (be w x)) (ei ∙ ap (num_at s at) ew ∙ sym (id_is (id_width s) s at)))
             (pb ∙ ap (λ (x : ℕ). put a (to + w) (be 1 x)) (ko ∙ sym (code_is (id_width s) s at)))
@@ -177,11 +162,9 @@ event_past s at l to (some vs) h = sym (put_out l to (event_bytes (id_width s) (
 
 -- where the argument count stands, as the code finds it
 pub row_by :
-    (s : List ℕ) (at w code row : ℕ) → w ≡ id_width s → code ≡ num_at s (at + w) 1 →
-    row ≡ cond (ltb code 64) (at + w + 1 + 2) (at + w + 1) → row ≡ count_place s at
-row_by s at w code row ew ec e =
-    e ∙
-    (λ i. cond (ltb ((ec ∙ ap (λ (k : ℕ). num_at s (at + k) 1) ew) i) 64) (at + ew i + 1 + 2) (at + ew i + 1))
+    (s : List ℕ) (at w row : ℕ) (has : Bool) → w ≡ id_width s → has ≡ has_dest (code_at s at) →
+    row ≡ cond has (at + w + 1 + 2) (at + w + 1) → row ≡ count_place s at
+row_by s at w row has ew eh e = e ∙ (λ i. cond (eh i) (at + ew i + 1 + 2) (at + ew i + 1))
 
 -- ---- told
 module _ (s : List ℕ) (at : ℕ) (l : List ℕ) (to : ℕ) where
@@ -206,3 +189,9 @@ module _ (s : List ℕ) (at : ℕ) (l : List ℕ) (to : ℕ) where
   unfolding EventAs size_of
   event_unset none e = (refl, refl)
   event_unset (some vs) e = absurd (cc e)
+
+-- the instruction at which a run stands
+pub near_going :
+    {g : Ground} {p : Spot} {t : Turn} →
+    Going g p t → Loud g.s.now p.at → length g.s.now * 1 < 2 ^ 63 → (g.w ≤ 8) × (p.at + 2048 < places)
+near_going {g} h loud few = near_by loud g.w h.grounded.width few

@@ -9,7 +9,6 @@ use native.Mathlib.Numerals.{add-one}
 use Rattle.std.proofs.Common.{Result, Ok, Err}
 use Rattle.record.specs.declared.NameIx.{NameIx}
 use Rattle.record.specs.Record.{type_in}
-use Rattle.record.specs.Reader.{num_at}
 use Rattle.record.specs.Decode.{id_width, items, index_from, instr_end}
 use Rattle.machine.specs.Machine.{Store, Answer, halt, Event, goes, tick}
 use Rattle.running.specs.Items.{answer_from, answer_end}
@@ -148,18 +147,15 @@ module _ (g : Ground) (before : Cells 256) (event : ℕ) (p : Spot) (t : Turn)
               };
         }
 
-    -- what takes said of it; w: the bytes of an id
-    module _ (w code : ℕ) (ew : w ≡ id_width s) (ec : code ≡ num_at s (at + w) 1) (b : Bool)
-        (eb : b ≡ fits_reply (has_dest code) (type_in types (index_from s (at + w + 1))) (answer_of x ∷ [])) where
-      code_here : code ≡ code_at s at
-      code_here = ec ∙ ap (λ (x : ℕ). num_at s (at + x) 1) ew
-
+    -- what takes said of it; w: the bytes of an id, has: whether there is a dest
+    module _ (w : ℕ) (has : Bool) (ew : w ≡ id_width s) (eh : has ≡ dest) (b : Bool)
+        (eb : b ≡ fits_reply has (type_in types (index_from s (at + w + 1))) (answer_of x ∷ [])) where
       said : fits_reply dest type (answers_left list t) ≡ b
       said =
           ap (fits_reply dest type) left_are ∙ fits_first dest type (answer_from list t.answer) rest ∙
           same_fits types (answer_from list t.answer ∷ []) dest (instr_at s at).dest (index_from s (at + id_width s + 1)) (dest_is loud) ∙
-          sym (λ i. fits_reply (has_dest (code_here i)) (type_in types (index_from s (at + ew i + 1))) (answer_from list t.answer ∷ [])) ∙
-          sym (eb ∙ (λ i. fits_reply (has_dest code) (type_in types (index_from s (at + w + 1))) (is i ∷ [])))
+          sym (λ i. fits_reply (eh i) (type_in types (index_from s (at + ew i + 1))) (answer_from list t.answer ∷ [])) ∙
+          sym (eb ∙ (λ i. fits_reply has (type_in types (index_from s (at + w + 1))) (is i ∷ [])))
 
       pub answered_unfit :
           (after : Cells 256) → b ≡ false → Answered g before after event p t (over_turn Unfit event k (t.answers - 1) t)
@@ -174,7 +170,7 @@ module _ (g : Ground) (before : Cells 256) (event : ℕ) (p : Spot) (t : Turn)
           }
 
       module _ (after : Cells 256) (q : Result Spot Over) (next : ℕ) (f : b ≡ true) (h : x ≢ told.Halt) (en : next ≡ instr_end (id_width s) s at)
-          (store : b ≡ true → store_in after ≡ given (has_dest code) (answer_of x) (store_in before) (index_from s (at + w + 1)))
+          (store : b ≡ true → store_in after ≡ given has (answer_of x) (store_in before) (index_from s (at + w + 1)))
           (landed :
           Landed g
           (first_of p.block (body_at s next (p.left - 1)) (land (blocks_of g) (p.block + 1))) q) where
@@ -185,8 +181,8 @@ module _ (g : Ground) (before : Cells 256) (event : ℕ) (p : Spot) (t : Turn)
         stored : given dest (answer_from list t.answer) (store_in before) (instr_at s at).dest ≡ store_in after
         stored =
             same_given (answer_from list t.answer) (store_in before) dest (instr_at s at).dest (index_from s (at + id_width s + 1)) (dest_is loud) ∙
-            sym (λ i. given (has_dest (code_here i)) (answer_from list t.answer) (store_in before) (index_from s (at + ew i + 1))) ∙
-            sym (store f ∙ (λ i. given (has_dest code) (is i) (store_in before) (index_from s (at + w + 1))))
+            sym (λ i. given (eh i) (answer_from list t.answer) (store_in before) (index_from s (at + ew i + 1))) ∙
+            sym (store f ∙ (λ i. given has (is i) (store_in before) (index_from s (at + w + 1))))
 
         there : stand_of s q ≡ first_of p.block (body_at s (instr_end (id_width s) s at) (p.left - 1)) (land (blocks_of g) (suc p.block))
         there =

@@ -3,6 +3,8 @@ use Rattle.std.specs.Prelude.{ℕ, ◌+◌, ◌-◌, ◌<◌, ◌≤◌, List, [
 use Rattle.std.proofs.Math.Option.{some}
 use Rattle.arith.specs.Map.{upd}
 use Rattle.record.specs.declared.NameIx.{NameIx}
+use Rattle.record.specs.declared.Op.{Op}
+use Rattle.record.specs.declared.Op.TheVariants as op
 use Rattle.record.specs.Record.{NameIx-discrete, Instr, type_in}
 use Rattle.record.specs.Reader.{num_at}
 use Rattle.record.specs.Decode.{id_width, instr_end}
@@ -11,13 +13,14 @@ use Rattle.running.specs.House.{go_on_byte, halt_byte, value_type}
 use Rattle.running.specs.Steps.{Config, moved, shifted}
 use Rattle.running.specs.Engine.{fits_value, fits_effect}
 use Rattle.read_fields.specs.Places.{places}
+use Rattle.codes.specs.Op.{op_of}
 use Rattle.engine_cells.specs.declared.Cells.{Cells}
 use Rattle.engine_quiet.specs.declared.Ground.{Ground}
 use Rattle.engine_quiet.specs.declared.Over.TheVariants.{Unfit}
 use Rattle.engine_quiet.specs.declared.Spot.{Spot}
-use Rattle.engine_quiet.specs.Spot.{body_at, blocks_of, code_at}
+use Rattle.engine_quiet.specs.Spot.{body_at, blocks_of, code_at, Grounded}
 use Rattle.engine_events.specs.declared.Turn.{Turn}
-use Rattle.engine_events.specs.Turn.{answers_left, config_in, instr_at, Ready}
+use Rattle.engine_events.specs.Turn.{most_event, answers_left, config_in, instr_at, count_place, Ready, Loud}
 
 -- ---- by the code: below 64 it has a dest, which the world gives a value
 abbrev pub has_dest : ℕ → Bool
@@ -44,10 +47,43 @@ given false x σ d = σ
 abbrev pub has_callee : ℕ → Bool
 has_callee code = eqb code 20 || eqb code 67
 
+-- ---- by the operation: of those with an event the new values have a dest
+unfoldable pub dest_op : Op → Bool
+dest_op op.Const = false
+dest_op (op.One o) = false
+dest_op (op.Two o) = false
+dest_op (op.New c) = true
+dest_op (op.Effect c) = false
+dest_op op.Nop = false
+dest_op op.Jmp = false
+dest_op op.Br = false
+dest_op op.Ret = false
+
+-- the operations with a callee
+unfoldable pub callee_op : Op → Bool
+callee_op op.Const = false
+callee_op (op.One o) = false
+callee_op (op.Two o) = false
+callee_op (op.New c) = eqb c 20
+callee_op (op.Effect c) = eqb c 67
+callee_op op.Nop = false
+callee_op op.Jmp = false
+callee_op op.Br = false
+callee_op op.Ret = false
+
 -- ---- how far the code goes from the place of an instruction, so that no sum passes the last place
 -- w: the bytes of an id, row: where its argument count stands, which is at most eight
 abbrev pub Near : List ℕ → ℕ → ℕ → ℕ → Type 0
 Near s w at row = (w ≤ 8) × ((at + 16 < places) × ((row + 32 < places) × (num_at s row 1 ≤ 8)))
+
+-- ---- what an event is told by: the operation of the instruction at a place, the place of its argument count, and that of the event
+pub record Telling (g : Ground) (o : Op) (at row to : ℕ) : Type 0 where
+  pub grounded : Grounded g
+  pub loud : Loud g.s.now at
+  pub coded : o ≡ op_of (code_at g.s.now at)
+  pub counted : row ≡ count_place g.s.now at
+  pub near : Near g.s.now g.w at row
+  pub room : to + most_event < places
 
 -- ---- an answer's first byte: one that stands alone, or the type byte of a value
 abbrev pub Known : ℕ → Type 0

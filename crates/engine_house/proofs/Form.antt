@@ -1,13 +1,12 @@
 -- The form around the items: its length and version, then the items, then the end.
 use Prim.Native.Nat.{ℕ, ◌-◌, ◌<◌, ◌≤◌}
-use mathlib.Core.Path.{◌≡◌, refl, sym, ap, ◌∙◌}
-use mathlib.Core.Logic.{◌≢◌}
+use mathlib.Core.Path.{◌≡◌, refl, ap, ◌∙◌}
 use mathlib.Core.List.{List, [], ◌∷◌}
 use mathlib.Core.Bool.{Bool, true, false, ◌&&◌}
 use native.Mathlib.Omega.{arith}
 use lib.ListN.{length}
 use lib.Dec.{leb, eqb}
-use borrow.Author.Tests.{eq-eqb, ne_eqb, lt-ltb, le-ltb, lt-leb, le-leb, leb-true, leb-false}
+use borrow.Author.Tests.{lt-ltb, le-ltb, leb-true, leb-false}
 use Rattle.arith.proofs.Clash.{clash}
 use Rattle.record.specs.declared.Refusal.TheVariants.{Length, Version}
 use Rattle.record.specs.Reader.{Res, got, fault, Reader, then, judge, give, ◌>>=◌, num_at, field}
@@ -17,32 +16,8 @@ use Rattle.record.proofs.Tests.{and_left, and_right}
 use Rattle.record.proofs.Fields.{field_tells}
 use Rattle.record.proofs.Following.{field_past, field_there, tested_is}
 use Rattle.running.specs.House.{form_test, in_form}
-use Rattle.engine_house.specs.Reads.{opens, longest_list}
+use Rattle.read_fields.specs.Opens.{opens}
 use Rattle.engine_house.proofs.Values.{Faulty}
-
--- ---- how it opens
--- what the code tests
-module _ (s : List ℕ) where
-  pub opens_short : length s < 5 → false ≡ opens s
-  unfolding opens
-  opens_short h = rw (lt-leb 5 (length s) h) refl
-
-  module _ (l v : ℕ) (h : 5 ≤ length s) (e : l ≡ num_at s 0 4) (f : v ≡ num_at s 4 1) where
-    pub opens_tested : (eqb l (length s - 4) && eqb v 1) ≡ opens s
-    unfolding opens
-    opens_tested = rw (le-leb 5 (length s) h) (λ i. eqb (e i) (length s - 4) && eqb (f i) 1)
-
-    -- by whether the length is right
-    pub opens_wrong : l ≢ length s - 4 → false ≡ opens s
-    unfolding opens
-    opens_wrong n = sym (ap (λ (b : Bool). b && eqb v 1) (ne_eqb l (length s - 4) n)) ∙ opens_tested
-
-    pub opens_right : l ≡ length s - 4 → eqb v 1 ≡ opens s
-    unfolding opens
-    opens_right n = sym (ap (λ (b : Bool). b && eqb v 1) (eq-eqb l (length s - 4) n)) ∙ opens_tested
-
-    pub opens_few : l < 4294967296 → l ≡ length s - 4 → length s < longest_list
-    opens_few b n = omega (arith, b, n)
 
 -- ---- what is read of it
 -- items up to the end
@@ -106,13 +81,11 @@ module _ {A : Type 0} (r : Reader A) (s : List ℕ) where
           record { reason = Length; place = p; is = by_length (got l p) e ∙ by_version p (fault Length p) past }
       go (fault k o) e = record { reason = k; place = o; is = by_length (fault k o) e }
 
-  pub form_opens : opens s ≡ true → in_form r s 0 ≡ up_to_end r s 5
-  unfolding opens
+  pub form_opens : opens 5 1 s ≡ true → in_form r s 0 ≡ up_to_end r s 5
   form_opens e =
       form_by (leb-true 5 (length s) (and_left (leb 5 (length s)) _ e)) _ _ refl refl (and_right (leb 5 (length s)) _ e)
 
-  pub form_closed : opens s ≡ false → Faulty (in_form r s 0)
-  unfolding opens
+  pub form_closed : opens 5 1 s ≡ false → Faulty (in_form r s 0)
   form_closed e = go (leb 5 (length s)) refl e
     where
       go :

@@ -6,6 +6,7 @@ use mathlib.Core.List.{List}
 use mathlib.Core.Bool.{Bool, true, false, cond, ◌||◌}
 use mathlib.Core.Option.{Option, none, some}
 use native.Mathlib.Omega.{arith}
+use Rattle.std.proofs.lemmas.Bool.{or_parts}
 use lib.ListN.{length}
 use lib.Dec.{eqb}
 use borrow.Author.Tests.{eq-eqb, ne_eqb}
@@ -27,14 +28,9 @@ use Rattle.engine_cells.proofs.Store.{held_none, held_some}
 use Rattle.std.proofs.Common.{Option as CodeOption, None, Some}
 use Rattle.engine_house.specs.declared.Item.{Item}
 use Rattle.engine_house.specs.Reads.{item, ReadAs, KindAs, BehindAs, TypedAs, StoredAs, EndAs}
-use Rattle.engine_house.proofs.Values.{Faulty, was_read, not_read, kind_is}
+use Rattle.engine_house.proofs.Values.{Faulty, no_pointer, was_read, not_read, kind_is}
 
 -- ---- the first byte
--- a condition that is none of two
-or_no : (a b : Bool) → (a || b) ≡ false → (a ≡ false) × (b ≡ false)
-or_no true b e = clash (cc e)
-or_no false b e = (refl, e)
-
 -- an item: a byte, its test, and what stands behind it by that byte
 module _ {A : Type 0} (test : ℕ → Test) (f : ℕ → Reader A) (s : List ℕ) (at : ℕ) where
   abbrev byte : ℕ
@@ -229,7 +225,7 @@ module _ (s : List ℕ) (at : ℕ) where
 
     module _ (e : (eqb (num_at s at 1) go_on_byte || eqb (num_at s at 1) halt_byte) ≡ false) where
       unmarked : (eqb (num_at s at 1) go_on_byte ≡ false) × (eqb (num_at s at 1) halt_byte ≡ false)
-      unmarked = or_no (eqb (num_at s at 1) go_on_byte) (eqb (num_at s at 1) halt_byte) e
+      unmarked = or_parts (eqb (num_at s at 1) go_on_byte) (eqb (num_at s at 1) halt_byte) e
 
       untyped_first : value_type (num_at s at 1) ≡ false → EndAs (house_answer s at) None
       unfolding house_answer answer_test EndAs
@@ -293,3 +289,10 @@ module _ (s : List ℕ) (at : ℕ) (h : at < length s) (kind : ℕ) (ek : kind �
             missing_first s at h (stands_same false e) v
             (subst (ReadAs (value_behind (num_at s at 1) s (at + 1))) f k.0)
         go false v k = untyped_first s at h (stands_same false e) v
+
+-- ---- for the check: what stands behind the type byte of a value, of one of the store, of an answer
+pub ruleset value_reads = (no_pointer, behind_none, behind_value)
+
+pub ruleset stored_reads = (stored_past, stored_nothing, no_stored, is_nothing, stored_none, stored_some)
+
+pub ruleset answer_reads = (answer_past, answer_marked, answer_read, answer_none)

@@ -5,6 +5,7 @@ use mathlib.Core.List.{List, [], ◌∷◌}
 use mathlib.Core.Bool.{Bool, true, false, cond, ◌&&◌}
 use mathlib.Core.Option.{Option, none}
 use native.Mathlib.Omega.{arith}
+use native.Mathlib.Nat.{zero-add}
 use lib.ListN.{length, get_or, drop, drop_of_length-le}
 use lib.Seq.{drop-cons}
 use lib.Dec.{leb}
@@ -24,7 +25,8 @@ use Rattle.engine_cells.specs.declared.Cells.{Cells}
 use Rattle.engine_cells.specs.Cells.{cell_holds, store_in}
 use Rattle.std.proofs.Common.{Option as CodeOption, None, Some}
 use Rattle.engine_house.specs.declared.Item.{Item}
-use Rattle.engine_house.specs.Reads.{item, TypedAs, StoredAs, opens, Blank, FitAs, StoreAs}
+use Rattle.read_fields.specs.Opens.{opens}
+use Rattle.engine_house.specs.Reads.{item, TypedAs, StoredAs, Blank, FitAs, StoreAs}
 use Rattle.engine_house.proofs.Form.{up_to_end, form_opens, form_closed, one_then, none_left, some_left}
 
 -- ---- an item that was read, or not
@@ -80,11 +82,8 @@ set_there σ i (v ∷ vs) h (suc k) =
 all_held : {N : ℕ} (cells : Cells N) (vs : List (Option Val)) → Blank cells → all_set (store_in cells) 0 vs ≡ holding vs
 all_held cells vs b =
     fun_ext (λ x.
-    ap (λ (k : ℕ). all_set (store_in cells) 0 vs (nm k)) (from_zero x.0) ∙
+    ap (λ (k : ℕ). all_set (store_in cells) 0 vs (nm k)) (sym (zero-add x.0)) ∙
     set_there (store_in cells) 0 vs (λ y l. b y) x.0)
-  where
-    from_zero : (k : ℕ) → k ≡ 0 + k
-    from_zero k = omega arith
 
 -- ---- what is still to be read
 abbrev pub stored_rest : ℕ → List ℕ → ℕ → Res (List (Option Val))
@@ -165,11 +164,11 @@ module _ {N : ℕ} (s ts : List ℕ) where
   abbrev pub StoreLoop : Cells N → ℕ → ℕ → Type 0
   StoreLoop cells p i = (after : Cells N) (b : Bool) → Left cells p i after b → StoreAs ts (stored (length ts) s 0) after (answered b)
 
-  pub store_closed : (after : Cells N) → opens s ≡ false → StoreAs ts (stored (length ts) s 0) after None
+  pub store_closed : (after : Cells N) → opens 5 1 s ≡ false → StoreAs ts (stored (length ts) s 0) after None
   unfolding stored StoreAs
   store_closed after o = rw (form_closed (times (length ts) (λ left. stored_value)) s o).is refl
 
-  pub store_start : (cells : Cells N) → opens s ≡ true → Blank cells → StoreLoop cells 5 0
+  pub store_start : (cells : Cells N) → opens 5 1 s ≡ true → Blank cells → StoreLoop cells 5 0
   unfolding stored RestAs StoreAs
   store_start cells o k after b h =
       let n : length ts ≡ length ts - 0 = omega arith in
@@ -235,3 +234,6 @@ module _ {N : ℕ} (s ts : List ℕ) where
         go : (b : Bool) → leb (length s) p ≡ b → StoreAs ts (stored (length ts) s 0) cells (then_some b tt)
         go true e = rw e at (store_done h)
         go false e = rw e at (store_done h)
+
+-- ---- for the check: the loop over the names
+pub ruleset store_reads = (store_closed, store_start, store_went, store_stopped, store_full)

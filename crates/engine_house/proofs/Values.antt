@@ -5,6 +5,7 @@ use mathlib.Core.List.{List}
 use mathlib.Core.Logic.{◌≢◌}
 use mathlib.Core.Bool.{Bool, true, false, cond, ◌&&◌, ◌||◌}
 use native.Mathlib.Omega.{arith}
+use Rattle.std.proofs.Math.Bool.{and-true, and-false}
 use lib.Dec.{T, ltb, leb, eqb}
 use borrow.Author.Tests.{eq-eqb, ne_eqb, lt-ltb, le-leb, lt-leb, leb-true, eqb-true}
 use Rattle.arith.specs.Word.{W}
@@ -141,21 +142,13 @@ no_pointer t h l = go (eqb t held) refl (leb (t % 16) 3) refl h
     go false e false f h = absurd h
 
 -- ---- the types that a cell's value has
-and_true : (b : Bool) → (b && true) ≡ b
-and_true true = refl
-and_true false = refl
-
-and_false : (b : Bool) → (b && false) ≡ false
-and_false true = refl
-and_false false = refl
-
 module _ (t word : ℕ) where
   -- int, bool, float
   type_low : (kind : ℕ) → kind ≤ 2 → word < W → has_type t (plain_from kind word) ≡ eqb kind t
   unfolding plain_from type_of in_range
-  type_low zero h w = rw (lt-ltb word W w) (and_true (eqb 0 t))
-  type_low (suc zero) h w = and_true (eqb 1 t)
-  type_low (suc (suc zero)) h w = rw (lt-ltb word W w) (and_true (eqb 2 t))
+  type_low zero h w = rw (lt-ltb word W w) (and-true (eqb 0 t))
+  type_low (suc zero) h w = and-true (eqb 1 t)
+  type_low (suc (suc zero)) h w = rw (lt-ltb word W w) (and-true (eqb 2 t))
   type_low (suc (suc (suc k))) h w = absurd (omega (arith, h))
 
   module _ (kind offset : ℕ) where
@@ -178,7 +171,7 @@ module _ (t word : ℕ) where
     pub of_held : kind ≡ held → word < W → eqb t 2 ≡ has_type t (value_by kind word offset)
     unfolding value_by plain_from type_of in_range
     of_held e w =
-        let all : (eqb 2 t && ltb word W) ≡ eqb 2 t = ap (λ (b : Bool). eqb 2 t && b) (lt-ltb word W w) ∙ and_true (eqb 2 t) in
+        let all : (eqb 2 t && ltb word W) ≡ eqb 2 t = ap (λ (b : Bool). eqb 2 t && b) (lt-ltb word W w) ∙ and-true (eqb 2 t) in
         eqb_comm t 2 ∙ sym all ∙ ap (λ (k : ℕ). has_type t (value_by k word offset)) (sym e)
 
     module _ (h : held < kind) where
@@ -190,10 +183,17 @@ module _ (t word : ℕ) where
       unfolding in_range
       of_none l =
           let out : in_range (pointer kind word offset) ≡ false = rw (lt-leb 16 kind l) in
-          sym (of_above false out ∙ and_false (eqb kind t))
+          sym (of_above false out ∙ and-false (eqb kind t))
 
       pub of_pointer : 16 ≤ kind → word < W → offset < W → eqb t kind ≡ has_type t (value_by kind word offset)
       unfolding in_range
       of_pointer l w o =
           let ranges : in_range (pointer kind word offset) ≡ true = rw (le-leb 16 kind l, lt-ltb word W w, lt-ltb offset W o) in
-          eqb_comm t kind ∙ sym (of_above true ranges ∙ and_true (eqb kind t))
+          eqb_comm t kind ∙ sym (of_above true ranges ∙ and-true (eqb kind t))
+
+-- ---- for the check: the types of a cell's value, and what stands behind a type byte
+pub ruleset typed = (of_low, char_typed, char_other, of_held, of_none, of_pointer)
+
+pub ruleset pointer_read = (was_ok, was_err, read_is, read_no, two_read, second_missing, first_missing)
+
+pub ruleset plain_read = (was_ok, was_err, read_is, read_no, word_read, word_unfit, word_missing)

@@ -1,5 +1,5 @@
 -- What reading the house form comes to in the code: an item as a cell, a store as cells, a list of answers as their number.
-use Rattle.std.specs.Prelude.{ℕ, zero, suc, ◌+◌, ◌-◌, ◌<◌, ◌≤◌, List, map, Bool, true, false, cond, ◌&&◌, ◌||◌, ◌≡◌, ◌≢◌, eqb, leb, length, Option as CodeOption, None, Some}
+use Rattle.std.specs.Prelude.{ℕ, zero, suc, ◌+◌, ◌<◌, ◌≤◌, List, map, Bool, true, false, cond, ◌||◌, ◌≡◌, ◌≢◌, eqb, length, Option as CodeOption, None, Some}
 use Rattle.std.proofs.Math.Option.{Option, none}
 use Rattle.arith.specs.Value.{Val, is_pointer}
 use Rattle.record.specs.declared.NameIx.{NameIx}
@@ -9,6 +9,7 @@ use Rattle.record.specs.Decode.{items}
 use Rattle.machine.specs.Machine.{Answer, value, go_on, halt}
 use Rattle.running.specs.House.{nothing_byte, go_on_byte, halt_byte, value_type, of_type, of_types, holding, values_from, stored_bytes}
 use Rattle.running.specs.Items.{answer_from, answer_end}
+use Rattle.read_fields.specs.Opens.{longest_form}
 use Rattle.engine_cells.specs.declared.Cell.{Cell}
 use Rattle.engine_cells.specs.declared.Cells.{Cells}
 use Rattle.engine_cells.specs.Cells.{cell_value, cell_holds, store_in}
@@ -63,11 +64,6 @@ unfoldable pub EndAs : Res Answer → CodeOption ℕ → Type 0
 EndAs (got x p) r = r ≡ Some p
 EndAs (fault k o) r = r ≡ None
 
--- ---- the form around them
--- its length and version are there and are right
-unfoldable pub opens : List ℕ → Bool
-opens s = leb 5 (length s) && (eqb (num_at s 0 4) (length s - 4) && eqb (num_at s 4 1) 1)
-
 -- ---- a store
 -- cells of which none is set
 abbrev pub Blank : {N : ℕ} → Cells N → Type 0
@@ -92,7 +88,7 @@ Sure s at (suc n) = ((eqb (num_at s at 1) go_on_byte || (eqb (num_at s at 1) hal
 
 -- a list longer than its length says is none: its length has four bytes
 abbrev pub longest_list : ℕ
-longest_list = 4294967300
+longest_list = longest_form
 
 -- n answers, which are xs
 pub record ListOf (s : List ℕ) (xs : List Answer) (r : CodeOption ℕ) : Type 0 where

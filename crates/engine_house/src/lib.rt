@@ -1,16 +1,17 @@
 // The house form: values, stores and lists of answers as bytes, read with their tests; answers read a second time; and a store written.
-// as: a number that is known to fit, or u64 and usize, which have no From; try_from would hand out an error that cannot be.
+// as: the number fits, or u64 and usize have no From; try_from would give an error that cannot happen.
 #![tactic(auto)]
 
-ghost use Rattle.std.specs.Prelude.{◌≡◌, true, ◌||◌, ◌+◌, ◌*◌, ◌<◌, ◌≤◌, T, eqb, length};
+ghost use Rattle.std.specs.Prelude.{◌≡◌, true, ◌||◌, ◌+◌, ◌*◌, ◌%◌, ◌<◌, ◌≤◌, T, eqb, length};
 ghost use Rattle.arith.specs.Value.{has_type};
 ghost use Rattle.record.specs.Record.{nm};
 ghost use Rattle.record.specs.Reader.{num_at};
 ghost use Rattle.running.specs.House.{go_on_byte, halt_byte, value_type, value_behind, stored_value, house_answer, stored, answers, values_from, stored_bytes, store_bytes};
+ghost use Rattle.read_fields.specs.Opens.{opens, longest_form};
 ghost use Rattle.read_fields.specs.Places.{places};
 ghost use Rattle.write_bytes.specs.Put.{Wrote};
 ghost use Rattle.engine_cells.specs.Cells.{cell_value, store_in};
-ghost use Rattle.engine_house.specs.Reads.{ReadAs, KindAs, BehindAs, StoredAs, EndAs, Blank, StoreAs, opens, longest_list, ListAs, answer_there, end_of, values_held};
+ghost use Rattle.engine_house.specs.Reads.{ReadAs, KindAs, BehindAs, StoredAs, EndAs, Blank, StoreAs, ListAs, answer_there, end_of, values_held};
 
 use engine_cells::{Cell, Cells};
 
@@ -26,30 +27,39 @@ pub const GO_ON: u8 = 0xFE;
 
 pub const HALT: u8 = 0xFD;
 
+// Where the items of a form begin: behind its length of four bytes and its version.
+pub const ITEMS: usize = 5;
+
+const LENGTH: usize = 4;
+
+const VERSION: u8 = 1;
+
 // ---- types
 // Whether a cell's value is of this type.
+#[tactic(auto, using(crate::proofs::Values::typed))]
 pub fn has_type(t: u8, c: Cell) -> bool
     ensures { result ≡ has_type t (cell_value c) }
 {
     let kind = c.kind;
     match kind {
-        0..=2 => t == kind,
-        3 => t == engine_cells::CHAR && read_shapes::scalar(c.word),
-        4 => t == record::FLOAT,
-        5..=15 => false,
-        _ => t == kind,
+        record::INT..=record::FLOAT => t == kind,
+        record::CHAR => t == kind && read_shapes::scalar(c.word),
+        engine_cells::HELD => t == record::FLOAT,
+        record::POINTER.. => t == kind,
+        _ => false,
     }
 }
 
-// Whether a value can have this type byte.
+// Whether a value can have this type byte: that of a literal in a float, or a type's, over pointers or alone.
 fn value_type(kind: u8) -> bool
     ensures { result ≡ value_type kind }
 {
-    kind == engine_cells::HELD || kind % 16 <= 3
+    kind == engine_cells::HELD || kind % record::POINTER <= record::CHAR
 }
 
 // ---- values
 // A pointer's base and offset, behind its type byte.
+#[tactic(auto, using(crate::proofs::Values::pointer_read), unfolding(crate::specs::Reads::KindAs))]
 fn two_words(s: &[u8], at: usize, kind: u8) -> Option<Item>
     requires { 16 ≤ kind }
     ensures { ReadAs (value_behind kind s.now at) result × KindAs kind result }
@@ -62,13 +72,26 @@ fn two_words(s: &[u8], at: usize, kind: u8) -> Option<Item>
     })
 }
 
-// The word of a value that is no pointer, tested as a literal's.
+// The kind of the literal as which the word of a value that is no pointer is tested: one that a float holds is an int's.
+fn literal_kind(kind: u8) -> u8
+    requires { kind ≤ 4 }
+    ensures { result ≡ kind % 4 }
+{
+    if kind == engine_cells::HELD {
+        record::INT
+    } else {
+        kind
+    }
+}
+
+// The word of a value that is no pointer, tested as a literal of its kind.
+#[tactic(auto, using(crate::proofs::Values::plain_read), unfolding(crate::specs::Reads::KindAs))]
 fn one_word(s: &[u8], at: usize, kind: u8) -> Option<Item>
     requires { kind ≤ 4 }
     ensures { ReadAs (value_behind kind s.now at) result × KindAs kind result }
 {
     let (word, end) = read_fields::field_at::<8>(s, at).ok()?;
-    read_shapes::literal_test(u64::from(kind % 4), word).ok()?;
+    read_shapes::literal_test(u64::from(literal_kind(kind)), word).ok()?;
     Some(Item {
         cell: Cell {
             kind,
@@ -80,31 +103,29 @@ fn one_word(s: &[u8], at: usize, kind: u8) -> Option<Item>
 }
 
 // What stands behind the type byte of a value, if it is one.
+#[tactic(auto, using(crate::proofs::Items::value_reads))]
 fn value_behind(s: &[u8], at: usize, kind: u8) -> Option<Item>
     ensures { BehindAs (value_type kind) kind (value_behind kind s.now at) result }
 {
     if !value_type(kind) {
         return None;
     }
-    if engine_cells::POINTER <= kind {
+    if record::POINTER <= kind {
         return two_words(s, at, kind);
     }
     one_word(s, at, kind)
 }
 
 // ---- stores and lists of answers
-// Whether a form opens with its length and version. As `read_fields::opens` of 5 and 1, which does not say what `be` says here: that such a form
-// is not longer than four bytes can tell.
+// Whether a form opens with its length and in this version.
 fn opens(s: &[u8]) -> bool
-    ensures { (result ≡ opens s.now) × (result ≡ true → length s.now < longest_list) }
+    ensures { (result ≡ opens 5 1 s.now) × (result ≡ true → length s.now < longest_form) }
 {
-    if s.len() < 5 {
-        return false;
-    }
-    read_fields::be::<4>(s, 0) as usize == s.len() - 4 && read_fields::byte_or(s, 4) == 1
+    read_fields::opens(s, ITEMS, u64::from(VERSION))
 }
 
 // A value of the store, which has to be of type t, or nothing.
+#[tactic(auto, using(crate::proofs::Items::stored_reads))]
 fn stored_at(s: &[u8], at: usize, t: u8) -> Option<Item>
     ensures { StoredAs t (stored_value s.now at) result }
 {
@@ -120,6 +141,7 @@ fn stored_at(s: &[u8], at: usize, t: u8) -> Option<Item>
 }
 
 // A store of names of these types put into cells of which none is set, if it reads and each value is of its name's type.
+#[tactic(auto, using(crate::proofs::Store::store_reads))]
 pub fn read_store<const N: usize>(s: &[u8], types: &[u8], cells: &mut Cells<N>) -> Option<()>
     requires blank { Blank cells.old }
     requires named { length types.now ≤ N }
@@ -128,7 +150,7 @@ pub fn read_store<const N: usize>(s: &[u8], types: &[u8], cells: &mut Cells<N>) 
     if !opens(s) {
         return None;
     }
-    let mut p = 5;
+    let mut p = ITEMS;
     for (i, t) in types.iter().enumerate() {
         let item = stored_at(s, p, *t)?;
         cells.set_cell(i as u64, item.cell);
@@ -144,7 +166,8 @@ fn alone(kind: u8) -> bool
     kind == GO_ON || kind == HALT
 }
 
-// The place behind an answer.
+// The place behind an answer. Apart from stored_at: other bytes stand alone here, and nothing but the place is handed on.
+#[tactic(auto, using(crate::proofs::Items::answer_reads))]
 fn answer_at(s: &[u8], at: usize) -> Option<usize>
     ensures { EndAs (house_answer s.now at) result }
 {
@@ -156,13 +179,14 @@ fn answer_at(s: &[u8], at: usize) -> Option<usize>
 }
 
 // A list of answers: how many it has, if it reads.
+#[tactic(auto, using(crate::proofs::Answers::list_closed, crate::proofs::Answers::list_start))]
 pub fn read_answers(s: &[u8]) -> Option<usize>
     ensures { ListAs s.now (answers s.now 0) result }
 {
     if !opens(s) {
         return None;
     }
-    let mut p = 5;
+    let mut p = ITEMS;
     let mut n = 0;
     // How many answers there are is not known before they are read, so nothing is counted up to.
     while p < s.len() {
@@ -189,35 +213,28 @@ pub fn answer_again(s: &[u8], at: usize) -> Answer
     requires { at + 17 < places }
     ensures { result ≡ answer_there s.now at }
 {
-    let kind = read_fields::byte_or(s, at) as u8;
-    if kind == GO_ON {
-        return Answer::GoOn;
+    match read_fields::u8_at(s, at) {
+        GO_ON => Answer::GoOn,
+        HALT => Answer::Halt,
+        kind => Answer::Value(Cell {
+            kind,
+            word: read_fields::be::<8>(s, at + 1),
+            offset: read_fields::be::<8>(s, at + 1 + 8),
+        }),
     }
-    if kind == HALT {
-        return Answer::Halt;
-    }
-    Answer::Value(Cell {
-        kind,
-        word: read_fields::be::<8>(s, at + 1),
-        offset: read_fields::be::<8>(s, at + 1 + 8),
-    })
 }
 
 impl Answer {
-    // The place behind it, if it stands at this one.
+    // The place behind it, if it stands at this one. Not by value_size: of the bytes 05 to 0F, which no value has, that counts 17 bytes, and
+    // the definitions, of which the contract speaks for any byte, 9.
     pub fn end(self, at: usize) -> usize
         requires { at + 17 < places }
         ensures { (result ≡ end_of self at) × (result ≤ at + 17) }
     {
         match self {
-            Answer::GoOn => at + 1,
-            Answer::Halt => at + 1,
-            Answer::Value(c) => {
-                if engine_cells::POINTER <= c.kind {
-                    return at + 1 + 8 + 8;
-                }
-                at + 1 + 8
-            }
+            Answer::GoOn | Answer::Halt => at + 1,
+            Answer::Value(c) if record::POINTER <= c.kind => at + 1 + 8 + 8,
+            Answer::Value(_) => at + 1 + 8,
         }
     }
 }
@@ -236,6 +253,7 @@ fn put_held<const N: usize>(cells: &Cells<N>, x: u64, out: &mut [u8], at: usize)
 }
 
 // What the first n names hold, from a place on; the place behind it.
+#[tactic(auto, using(crate::proofs::Written::held_none, crate::proofs::Written::held_all))]
 fn put_cells<const N: usize>(cells: &Cells<N>, n: u64, out: &mut [u8], at: usize) -> usize
     requires { (n ≤ 256) × (at + 17 * n + 17 < places) }
     ensures { Wrote out.old out.new at result (values_held cells.now 0 n) × (result ≤ at + 17 * n) }
@@ -252,8 +270,8 @@ pub fn put_store<const N: usize>(cells: &Cells<N>, n: u64, out: &mut [u8]) -> us
     requires { n ≤ 256 }
     ensures { Wrote out.old out.new 0 result (store_bytes (values_from (store_in cells.now) 0 n)) }
 {
-    let end = put_cells(cells, n, out, 5);
-    write_bytes::put_u8(out, 4, 1);
-    write_bytes::put_u32(out, 0, (end - 4) as u32);
+    let end = put_cells(cells, n, out, ITEMS);
+    write_bytes::put_u8(out, LENGTH, VERSION);
+    write_bytes::put_u32(out, 0, (end - LENGTH) as u32);
     end
 }

@@ -5,11 +5,12 @@ use mathlib.Core.Logic.{◌≢◌, ◌⊎◌, inl, inr}
 use mathlib.Core.Bool.{Bool, not}
 use mathlib.Core.Option.{Option, none, some}
 use native.Mathlib.Omega.{arith}
-use Rattle.std.proofs.Common.{None, Some}
+use Rattle.std.proofs.Common.{Ok, Err}
+use Rattle.std.specs.Option.{ok_or}
+use Rattle.std.proofs.lemmas.Result.{err_from_is_err_and}
 use Rattle.arith.specs.declared.One.TheVariants.{Not, Id}
 use Rattle.arith.specs.declared.Two.{Two}
-use Rattle.arith.specs.declared.Two.TheVariants.{PtrAdd}
-use Rattle.arith.specs.Code.{one_of, two_of}
+use Rattle.arith.specs.declared.Two.TheVariants.{Add, Sub, Mul, Div, Eq, Lt, Gt, Le, Ge, And, Or, PtrAdd}
 use Rattle.arith.specs.Word.{add_w}
 use Rattle.arith.specs.Value.{Val, int, bool, pointer}
 use Rattle.arith.specs.Operation.{Result, ok, unset, as_int, as_bool, with_one, with_both, shift, apply1, apply2, one, two, eval}
@@ -17,23 +18,40 @@ use Rattle.record.specs.declared.NameIx.{NameIx}
 use Rattle.machine.specs.Machine.{Store}
 use Rattle.running.specs.House.{held, nothing_byte}
 use Rattle.engine_cells.specs.declared.Cell.{Cell}
-use Rattle.engine_cells.specs.Cells.{cell_value, cell_holds, int_held, bool_held}
+use Rattle.engine_cells.specs.Cells.{cell_holds, int_held, bool_held}
 use Rattle.engine_cells.proofs.Store.{by_pointer, held_none, held_some}
 use Rattle.engine_cells.proofs.ByKind.{no_shift, is_int, is_no_int, is_bool, is_no_bool}
-use Rattle.engine_pure.specs.Works.{expr_by, apply_by}
-use Rattle.engine_pure.proofs.Codes.{Takes, of_ints, of_bools}
+use Rattle.engine_pure.specs.declared.Stop.{Stop}
+use Rattle.engine_pure.specs.declared.Stop.TheVariants.{Unset}
+use Rattle.engine_pure.specs.Works.{Told, told}
+use Rattle.engine_pure.proofs.Works.{told_ok, told_unset, read_some, read_none}
+
+-- ---- which operators take ints, and which bools
+-- both operands are of one type: `to` takes a value for one of that type, which `of` makes a value
+abbrev pub Takes : {A : Type 0} → (Val → Option A) → (A → Val) → Two → Type 0
+Takes to of o = (x y : Val) → apply2 o x y ≡ with_both (to x) (to y) (λ a b. apply2 o (of a) (of b))
+
+pub take_ints : (o : Two) → o ≢ And → o ≢ Or → o ≢ PtrAdd → Takes as_int int o
+unfolding apply2 as_int with_both
+take_ints Add n m p x y = refl
+take_ints Sub n m p x y = refl
+take_ints Mul n m p x y = refl
+take_ints Div n m p x y = refl
+take_ints Eq n m p x y = refl
+take_ints Lt n m p x y = refl
+take_ints Gt n m p x y = refl
+take_ints Le n m p x y = refl
+take_ints Ge n m p x y = refl
+take_ints And n m p x y = absurd (n refl)
+take_ints Or n m p x y = absurd (m refl)
+take_ints PtrAdd n m p x y = absurd (p refl)
+
+pub take_bools : (o : Two) → (o ≡ And) ⊎ (o ≡ Or) → Takes as_bool bool o
+unfolding apply2 as_bool with_both
+take_bools o (inl e) x y = rw e refl
+take_bools o (inr e) x y = rw e refl
 
 -- ---- what two operands give
-module _ {A B : Type 0} (f : A → B → Result) where
-  no_first : (x : Option A) (y : Option B) → x ≡ none → with_both x y f ≡ unset
-  unfolding with_both
-  no_first x y e = rw e
-
-  no_second : (x : Option A) (y : Option B) → y ≡ none → with_both x y f ≡ unset
-  unfolding with_both
-  no_second none y e = refl
-  no_second (some a) y e = rw e
-
 -- it is unset if it is so of any operands that are set
 unset_both :
     {A B : Type 0} (x : Option A) (y : Option B) (f : A → B → Result) →
@@ -44,126 +62,133 @@ unset_both none y f h = refl
 unset_both (some a) none f h = refl
 unset_both (some a) (some b) f h = h a b refl refl
 
+no_first : {A B : Type 0} (f : A → B → Result) (x : Option A) (y : Option B) → x ≡ none → with_both x y f ≡ unset
+unfolding with_both
+no_first f x y e = rw e
+
+no_second : {A B : Type 0} (f : A → B → Result) (x : Option A) (y : Option B) → y ≡ none → with_both x y f ≡ unset
+unfolding with_both
+no_second f none y e = refl
+no_second f (some a) y e = rw e
+
 unset_one : {A : Type 0} (x : Option A) (f : A → Result) → ((a : A) → x ≡ some a → f a ≡ unset) → with_one x f ≡ unset
 unfolding with_one
 unset_one none f h = refl
 unset_one (some a) f h = h a refl
 
-module _ (σ : Store) where
-  -- ---- the operators of two operands
-  module _ (x y : NameIx) where
-    abbrev both : Two → Result
-    both o = eval σ (two o x y)
+-- ---- the operators of two names; k: why an operand was not read
+module _ (σ : Store) (x y : NameIx) (o : Two) where
+  both_set : (u v : Val) → σ x ≡ some u → σ y ≡ some v → eval σ (two o x y) ≡ apply2 o u v
+  unfolding eval with_both
+  both_set u v e f = rw (e, f)
 
-    applied : (o : Two) (u v : Val) → σ x ≡ some u → σ y ≡ some v → both o ≡ apply2 o u v
-    unfolding eval with_both
-    applied o u v e f = rw (e, f)
+  both_unset : (k : Stop) → k ≡ Unset → ((u v : Val) → σ x ≡ some u → σ y ≡ some v → apply2 o u v ≡ unset) → Err k ≡ told (eval σ (two o x y))
+  unfolding eval
+  both_unset k e h = told_unset e (unset_both (σ x) (σ y) (apply2 o) h)
 
-    both_unset : (o : Two) → ((u v : Val) → σ x ≡ some u → σ y ≡ some v → apply2 o u v ≡ unset) → both o ≡ unset
-    unfolding eval
-    both_unset o h = unset_both (σ x) (σ y) (apply2 o) h
+  -- of ints
+  module _ (n : o ≢ And) (m : o ≢ Or) (p : o ≢ PtrAdd) where
+    pub first_no_int : (k : Stop) → Err k ≡ ok_or (int_held (σ x)) Unset → Err k ≡ told (eval σ (two o x y))
+    first_no_int k e =
+        let (a, b) = read_none _ _ _ e in
+        both_unset k b (λ u v q r. take_ints o n m p u v ∙ no_first _ (as_int u) (as_int v) (is_no_int (σ x) u a q))
 
-    -- by the code of the operator
-    abbrev pub by : ℕ → Result
-    by code = eval σ (expr_by (one_of code) (two_of code) x y)
+    pub second_no_int : (k : Stop) → Err k ≡ ok_or (int_held (σ y)) Unset → Err k ≡ told (eval σ (two o x y))
+    second_no_int k e =
+        let (a, b) = read_none _ _ _ e in
+        both_unset k b (λ u v q r. take_ints o n m p u v ∙ no_second _ (as_int u) (as_int v) (is_no_int (σ y) v a r))
 
-    module _ {A : Type 0} (to : Val → Option A) (of : A → Val) (code : ℕ) (h : Takes to of code) where
-      by_two : by code ≡ both h.operator
-      by_two = rw (h.not_one, h.found)
+  pub both_int :
+      (a b : ℕ) (z : Told) → Ok a ≡ ok_or (int_held (σ x)) Unset → Ok b ≡ ok_or (int_held (σ y)) Unset →
+      z ≡ told (apply2 o (int a) (int b)) → z ≡ told (eval σ (two o x y))
+  both_int a b z e f h =
+      h ∙ ap told (sym (both_set (int a) (int b) (is_int (σ x) a (read_some _ _ _ e)) (is_int (σ y) b (read_some _ _ _ f))))
 
-      takes_both : (u v : Val) → σ x ≡ some u → σ y ≡ some v → by code ≡ apply_by (two_of code) u v
-      takes_both u v e f = by_two ∙ applied h.operator u v e f ∙ sym (ap (λ o. apply_by o u v) h.found)
+  -- of bools
+  module _ (h : (o ≡ And) ⊎ (o ≡ Or)) where
+    pub first_no_bool : (k : Stop) → Err k ≡ ok_or (bool_held (σ x)) Unset → Err k ≡ told (eval σ (two o x y))
+    first_no_bool k e =
+        let (a, b) = read_none _ _ _ e in
+        both_unset k b (λ u v q r. take_bools o h u v ∙ no_first _ (as_bool u) (as_bool v) (is_no_bool (σ x) u a q))
 
-      first_other : ((u : Val) → σ x ≡ some u → to u ≡ none) → by code ≡ unset
-      first_other n =
-          by_two ∙ both_unset h.operator (λ u v p q. h.takes u v ∙ no_first _ (to u) (to v) (n u p))
+    pub second_no_bool : (k : Stop) → Err k ≡ ok_or (bool_held (σ y)) Unset → Err k ≡ told (eval σ (two o x y))
+    second_no_bool k e =
+        let (a, b) = read_none _ _ _ e in
+        both_unset k b (λ u v q r. take_bools o h u v ∙ no_second _ (as_bool u) (as_bool v) (is_no_bool (σ y) v a r))
 
-      second_other : ((v : Val) → σ y ≡ some v → to v ≡ none) → by code ≡ unset
-      second_other n =
-          by_two ∙ both_unset h.operator (λ u v p q. h.takes u v ∙ no_second _ (to u) (to v) (n v q))
+  pub both_bool :
+      (a b : Bool) (z : Told) → Ok a ≡ ok_or (bool_held (σ x)) Unset → Ok b ≡ ok_or (bool_held (σ y)) Unset →
+      z ≡ told (apply2 o (bool a) (bool b)) → z ≡ told (eval σ (two o x y))
+  both_bool a b z e f h =
+      h ∙ ap told (sym (both_set (bool a) (bool b) (is_bool (σ x) a (read_some _ _ _ e)) (is_bool (σ y) b (read_some _ _ _ f))))
 
-    -- add to ge
-    module _ (code : ℕ) (h : (1 ≤ code) × (code ≤ 9)) where
-      pub first_no_int : None ≡ int_held (σ x) → by code ≡ unset
-      first_no_int e = first_other as_int int code (of_ints code h.0 h.1) (λ u p. is_no_int (σ x) u e p)
+-- ptradd; p: what x holds
+module _ (σ : Store) (x y : NameIx) where
+  pub no_offset : (k : Stop) → Err k ≡ ok_or (int_held (σ y)) Unset → Err k ≡ told (eval σ (two PtrAdd x y))
+  unfolding apply2 with_one
+  no_offset k e =
+      let (a, b) = read_none _ _ _ e in
+      both_unset σ x y PtrAdd k b (λ u v q r. rw (is_no_int (σ y) v a r))
 
-      pub second_no_int : None ≡ int_held (σ y) → by code ≡ unset
-      second_no_int e = second_other as_int int code (of_ints code h.0 h.1) (λ v p. is_no_int (σ y) v e p)
+  pub moved :
+      (a : ℕ) (p : Option Val) (z : Told) → Ok a ≡ ok_or (int_held (σ y)) Unset → σ x ≡ p →
+      z ≡ told (with_one p (λ v. shift v a)) → z ≡ told (eval σ (two PtrAdd x y))
+  unfolding eval apply2 as_int with_both with_one
+  moved a p z e f h = h ∙ ap told (sym (rw (is_int (σ y) a (read_some _ _ _ e), f) (by p)))
+    where
+      by : (u : Option Val) → with_both u (some (int a)) (apply2 PtrAdd) ≡ with_one u (λ v. shift v a)
+      by none = refl
+      by (some v) = refl
 
-      pub both_int : (a b : ℕ) → Some a ≡ int_held (σ x) → Some b ≡ int_held (σ y) → by code ≡ apply_by (two_of code) (int a) (int b)
-      both_int a b e f =
-          takes_both as_int int code (of_ints code h.0 h.1) (int a) (int b) (is_int (σ x) a e) (is_int (σ y) b f)
+-- a cell that is moved by k
+module _ (c : Cell) (k : ℕ) where
+  abbrev moved_cell : Result
+  moved_cell = with_one (cell_holds c) (λ v. shift v k)
 
-    -- and and or
-    module _ (code : ℕ) (h : (11 ≤ code) × (code ≤ 12)) where
-      pub first_no_bool : None ≡ bool_held (σ x) → by code ≡ unset
-      first_no_bool e = first_other as_bool bool code (of_bools code h.0 h.1) (λ u p. is_no_bool (σ x) u e p)
+  pub no_pointer : (c.kind ≤ held) ⊎ ((held < c.kind) × (c.kind ≡ nothing_byte)) → moved_cell ≡ unset
+  unfolding with_one
+  no_pointer (inl h) =
+      let n : c.kind ≢ nothing_byte = λ g. absurd (omega (arith, g, h)) in
+      ap (λ u. with_one u (λ v. shift v k)) (held_some c.kind c.word c.offset n) ∙ no_shift c.word c.offset c.kind k h
+  no_pointer (inr h) = ap (λ u. with_one u (λ v. shift v k)) (held_none c.kind c.word c.offset h.1)
 
-      pub second_no_bool : None ≡ bool_held (σ y) → by code ≡ unset
-      second_no_bool e = second_other as_bool bool code (of_bools code h.0 h.1) (λ v p. is_no_bool (σ y) v e p)
+  -- o: its offset then
+  module _ (o : ℕ) (p : held < c.kind) (n : c.kind ≢ nothing_byte) (s : o ≡ add_w c.offset k) where
+    holds : (m : ℕ) → cell_holds (record { kind = c.kind; word = c.word; offset = m }) ≡ some (pointer c.kind c.word m)
+    holds m = held_some c.kind c.word m n ∙ ap some (by_pointer c.kind c.word m p)
 
-      pub both_bool :
-          (a b : Bool) → Some a ≡ bool_held (σ x) → Some b ≡ bool_held (σ y) →
-          by code ≡ apply_by (two_of code) (bool a) (bool b)
-      both_bool a b e f =
-          takes_both as_bool bool code (of_bools code h.0 h.1) (bool a) (bool b) (is_bool (σ x) a e) (is_bool (σ y) b f)
+    pub pointer_moved : Ok (cell_holds (record { kind = c.kind; word = c.word; offset = o })) ≡ told moved_cell
+    unfolding with_one shift
+    pointer_moved =
+        ap Ok (holds o) ∙
+        told_ok (ap (λ u. with_one u (λ v. shift v k)) (holds c.offset) ∙ ap (λ (m : ℕ). ok (pointer c.kind c.word m)) (sym s))
 
-    -- ptradd; c: the cell of x
-    module _ (c : Cell) (e : σ x ≡ cell_holds c) where
-      no_pointer_value : c.kind ≤ held → both PtrAdd ≡ unset
-      unfolding apply2
-      no_pointer_value h =
-          both_unset PtrAdd
-          (λ u v p q.
-          unset_one (as_int v) (shift u)
-          (λ k f.
-          let n : c.kind ≢ nothing_byte = λ g. absurd (omega (arith, g, h)) in
-          let s : some (cell_value c) ≡ some u = sym (held_some c.kind c.word c.offset n) ∙ sym e ∙ p in
-          let w : cell_value c ≡ u = cc s in
-          ap (λ (t : Val). shift t k) (sym w) ∙ no_shift c.word c.offset c.kind k h))
+-- ---- the operators of one name
+module _ (σ : Store) (x : NameIx) where
+  -- not
+  pub negated : (b : Bool) (u : Option Val) → Ok b ≡ ok_or (bool_held (σ x)) Unset → u ≡ some (bool (not b)) → Ok u ≡ told (eval σ (one Not x))
+  unfolding eval with_one apply1 as_bool
+  negated b u e f = ap Ok f ∙ told_ok (rw (is_bool (σ x) b (read_some _ _ _ e)) refl)
 
-      no_pointer_nothing : c.kind ≡ nothing_byte → both PtrAdd ≡ unset
-      unfolding eval
-      no_pointer_nothing h = no_first (apply2 PtrAdd) (σ x) (σ y) (e ∙ held_none c.kind c.word c.offset h)
+  pub negate_other : (k : Stop) → Err k ≡ ok_or (bool_held (σ x)) Unset → Err k ≡ told (eval σ (one Not x))
+  unfolding eval with_one apply1
+  negate_other k e =
+      let (a, b) = read_none _ _ _ e in
+      told_unset b (unset_one (σ x) (apply1 Not) (λ u p. rw (is_no_bool (σ x) u a p)))
 
-      pub no_pointer : (c.kind ≤ held) ⊎ ((held < c.kind) × (c.kind ≡ nothing_byte)) → both PtrAdd ≡ unset
-      no_pointer (inl h) = no_pointer_value h
-      no_pointer (inr h) = no_pointer_nothing h.1
-
-      pub no_offset : None ≡ int_held (σ y) → both PtrAdd ≡ unset
-      unfolding apply2 with_one
-      no_offset n = both_unset PtrAdd (λ u v p q. rw (is_no_int (σ y) v n q))
-
-      -- k: the int by which the pointer is moved, o: its offset then
-      module _
-          (k o : ℕ) (p : held < c.kind) (n : c.kind ≢ nothing_byte) (f : Some k ≡ int_held (σ y)) (s : o ≡ add_w c.offset k) where
-        pub moved_by : both PtrAdd ≡ ok (pointer c.kind c.word o)
-        unfolding apply2 as_int with_one shift
-        moved_by =
-            applied PtrAdd (pointer c.kind c.word c.offset) (int k)
-            (e ∙ held_some c.kind c.word c.offset n ∙ ap some (by_pointer c.kind c.word c.offset p)) (is_int (σ y) k f) ∙
-            ap (λ (m : ℕ). ok (pointer c.kind c.word m)) (sym s)
-
-        pub moved_cell : cell_holds (record { kind = c.kind; word = c.word; offset = o }) ≡ some (pointer c.kind c.word o)
-        moved_cell = held_some c.kind c.word o n ∙ ap some (by_pointer c.kind c.word o p)
-
-  -- ---- the operators of one operand
-  module _ (x : NameIx) where
-    -- not
-    pub negated : (b : Bool) → Some b ≡ bool_held (σ x) → eval σ (one Not x) ≡ ok (bool (not b))
-    unfolding eval with_one apply1 as_bool
-    negated b e = rw (is_bool (σ x) b e)
-
-    pub negate_other : None ≡ bool_held (σ x) → eval σ (one Not x) ≡ unset
+  -- id; c: the cell of x
+  module _ (c : Cell) (e : σ x ≡ cell_holds c) where
+    pub copied : c.kind ≢ nothing_byte → Ok (cell_holds c) ≡ told (eval σ (one Id x))
     unfolding eval with_one apply1
-    negate_other n = unset_one (σ x) (apply1 Not) (λ u p. rw (is_no_bool (σ x) u n p))
+    copied n =
+        let s = held_some c.kind c.word c.offset n in
+        ap Ok s ∙ told_ok (rw (e ∙ s))
 
-    -- id; c: the cell of x
-    module _ (c : Cell) (e : σ x ≡ cell_holds c) where
-      pub copied : c.kind ≢ nothing_byte → eval σ (one Id x) ≡ ok (cell_value c)
-      unfolding eval with_one apply1
-      copied n = rw (e ∙ held_some c.kind c.word c.offset n)
+    pub copy_nothing : c.kind ≡ nothing_byte → Err Unset ≡ told (eval σ (one Id x))
+    unfolding eval with_one
+    copy_nothing n = told_unset refl (rw (e ∙ held_none c.kind c.word c.offset n))
 
-      pub copy_nothing : c.kind ≡ nothing_byte → eval σ (one Id x) ≡ unset
-      unfolding eval with_one
-      copy_nothing n = rw (e ∙ held_none c.kind c.word c.offset n)
+-- ---- for the check: an operand that was not read, and two ints that were
+pub ruleset of_one = (negate_other, err_from_is_err_and)
+
+pub ruleset of_two = (first_no_int, second_no_int, both_int, first_no_bool, second_no_bool, no_offset, err_from_is_err_and)

@@ -1,4 +1,3 @@
 pub mod Works
 pub mod Literals
-pub mod Codes
 pub mod Evals

@@ -1,21 +1,20 @@
--- What the code tells of a result: that of an operand, of an int and of a cell; and what became of the cells.
+-- What the code tells of a result: that of an operand that was read, and of a known result; and what became of the cells.
 use Prim.Native.Nat.{ℕ}
 use mathlib.Core.Path.{◌≡◌, refl, sym, ap, ◌∙◌}
-use mathlib.Core.Option.{Option, none, some}
+use mathlib.Core.Option.{Option, some}
 use Rattle.std.proofs.Common.{Option as CodeOption, None, Some, Ok, Err}
 use Rattle.std.specs.Option.{ok_or}
+use Rattle.std.proofs.lemmas.Result.{err_from_is_err_and}
 use Rattle.arith.specs.Map.{upd}
-use Rattle.arith.specs.Value.{Val, int}
-use Rattle.arith.specs.Operation.{Result, ok, stops, unset, divide}
-use Rattle.arith.proofs.Operation.{divide_either}
-use Rattle.words.specs.View.{quotient_of, result_of}
+use Rattle.arith.specs.Value.{Val}
+use Rattle.arith.specs.Operation.{Result, ok, stops, unset}
 use Rattle.record.specs.declared.NameIx.{NameIx}
 use Rattle.record.specs.Record.{NameIx-discrete}
 use Rattle.engine_cells.specs.declared.Cells.{Cells}
 use Rattle.engine_cells.specs.Cells.{store_in}
 use Rattle.engine_pure.specs.declared.Stop.{Stop}
 use Rattle.engine_pure.specs.declared.Stop.TheVariants.{Division, Unset}
-use Rattle.engine_pure.specs.Works.{Works, told, ints_held}
+use Rattle.engine_pure.specs.Works.{Works, told}
 
 -- ---- an operand that was read, or was not; e: the reason that stands for none
 module _ {A E : Type 0} (o : CodeOption A) (e : E) where
@@ -54,11 +53,5 @@ works_some before after d (ok v) u e h = let f : u ≡ some v = cc e in (refl, h
 works_some before after d (stops c) u e h = absurd (cc e)
 works_some before after d unset u e h = absurd (cc e)
 
--- ---- the answer of a division
-pub told_quotient :
-    (a b : ℕ) (q : CodeOption ℕ) → quotient_of q ≡ result_of (divide a b) → ints_held (ok_or q Division) ≡ told (divide a b)
-unfolding quotient_of result_of told
-told_quotient a b (Some w) e =
-    divide_either (λ r. some (int w) ≡ result_of r → Ok (some (int w)) ≡ told r) a b (λ h. absurd (cc h)) (λ h. ap Ok h) e
-told_quotient a b None e =
-    divide_either (λ r. none ≡ result_of r → Err Division ≡ told r) a b (λ h. refl) (λ h. absurd (cc h)) e
+-- for the check: a cell that was set, or the reason why none was
+pub ruleset worked = (works_none, works_some, err_from_is_err_and)

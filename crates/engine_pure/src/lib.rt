@@ -1,17 +1,14 @@
-// What const and the codes 1 to 14 do to the store: their operands read from the cells, the result put into dest's cell.
-// at: the place behind an instruction's code, where dest stands.
-// as: a number that is known to fit, or u64 and usize, which have no From; try_from would hand out an error that cannot be.
+// What const and the operators do to the store: their operands read from the cells, the result put into dest's cell.
+// at: the place behind an instruction's code, where dest stands; behind its two bytes a count of one, the operands, of two each, from at + 3 on.
 #![tactic(auto)]
 
 ghost use Rattle.std.specs.Prelude.{◌≡◌, ℕ, ◌+◌, ◌*◌, ◌<◌, ◌≤◌, length};
 ghost use Rattle.std.specs.Option.{ok_or};
 ghost use Rattle.std.proofs.Math.Option.{some};
-ghost use Rattle.arith.specs.declared.One.TheVariants.{Not, Id};
-ghost use Rattle.arith.specs.declared.Two.TheVariants.{PtrAdd};
-ghost use Rattle.arith.specs.Code.{two_of};
+ghost use Rattle.arith.specs.declared.One.TheVariants.{Id};
 ghost use Rattle.arith.specs.Map.{upd};
 ghost use Rattle.arith.specs.Value.{int, bool};
-ghost use Rattle.arith.specs.Operation.{ok, one, two, divide, eval};
+ghost use Rattle.arith.specs.Operation.{one, two, with_one, shift, apply2, eval};
 ghost use Rattle.record.specs.Record.{NameIx-discrete, type_in};
 ghost use Rattle.record.specs.Form.{value_of};
 ghost use Rattle.record.specs.Reader.{num_at};
@@ -19,8 +16,9 @@ ghost use Rattle.record.specs.Decode.{index_from};
 ghost use Rattle.running.specs.House.{held};
 ghost use Rattle.running.specs.Items.{plain_from};
 ghost use Rattle.engine_cells.specs.Cells.{int_held, bool_held, cell_holds, store_in};
-ghost use Rattle.engine_pure.specs.Works.{Works, told, ints_held, cells_held, expr_at, apply_by, operands, Lies};
+ghost use Rattle.engine_pure.specs.Works.{Works, told, cells_held, Lies};
 
+use arith::{One, Two};
 use engine_cells::{Cell, Cells};
 
 // Why an operation gives no value: a division by 0, or an operand that is not set.
@@ -30,184 +28,166 @@ pub enum Stop {
     Unset,
 }
 
-// ---- operations of words
-// div
-fn divide(a: u64, b: u64) -> Result<u64, Stop>
-    ensures { ints_held result ≡ told (divide a b) }
+// ---- operations of what was read
+// An operator of two ints. The others have no value of them.
+#[tactic(auto, unfolding(arith::specs::Opened::all_of_arith, words::specs::View::quotient_of, words::specs::View::result_of, crate::specs::Works::told))]
+fn of_ints(o: Two, a: u64, b: u64) -> Result<Cell, Stop>
+    ensures { cells_held result ≡ told (apply2 o (int a) (int b)) }
 {
-    words::divide(a, b).ok_or(Stop::Division)
+    match o {
+        Two::Add => Ok(Cell::int(words::add(a, b))),
+        Two::Sub => Ok(Cell::int(words::sub(a, b))),
+        Two::Mul => Ok(Cell::int(words::mul(a, b))),
+        Two::Div => Ok(Cell::int(words::divide(a, b).ok_or(Stop::Division)?)),
+        Two::Eq => Ok(Cell::bool(a == b)),
+        Two::Lt => Ok(Cell::bool(words::less(a, b))),
+        Two::Gt => Ok(Cell::bool(words::less(b, a))),
+        Two::Le => Ok(Cell::bool(!words::less(b, a))),
+        Two::Ge => Ok(Cell::bool(!words::less(a, b))),
+        Two::And | Two::Or | Two::PtrAdd => Err(Stop::Unset),
+    }
 }
 
-// add, sub, mul and div
-fn sum(code: u64, a: u64, b: u64) -> Result<u64, Stop>
-    requires { (1 ≤ code) × (code ≤ 4) }
-    ensures { ints_held result ≡ told (apply_by (two_of code) (int a) (int b)) }
+// An operator of two bools. The others have no value of them.
+#[tactic(auto, unfolding(arith::specs::Opened::all_of_arith, crate::specs::Works::told))]
+fn of_bools(o: Two, a: bool, b: bool) -> Result<Cell, Stop>
+    ensures { cells_held result ≡ told (apply2 o (bool a) (bool b)) }
 {
-    match code {
-        1 => Ok(words::add(a, b)),
-        2 => Ok(words::sub(a, b)),
-        3 => Ok(words::mul(a, b)),
-        _ => divide(a, b),
+    match o {
+        Two::And => Ok(Cell::bool(a && b)),
+        Two::Or => Ok(Cell::bool(a || b)),
+        _ => Err(Stop::Unset),
     }
 }
 
-// eq, lt, gt, le and ge
-fn compared(code: u64, a: u64, b: u64) -> bool
-    requires { (5 ≤ code) × (code ≤ 9) }
-    ensures { apply_by (two_of code) (int a) (int b) ≡ ok (bool result) }
+// ptradd, of what a name holds and an int.
+fn shift(p: Cell, k: u64) -> Result<Cell, Stop>
+    ensures { cells_held result ≡ told (with_one (cell_holds p) (λ v. shift v k)) }
 {
-    match code {
-        5 => a == b,
-        6 => words::less(a, b),
-        7 => words::less(b, a),
-        8 => !words::less(b, a),
-        _ => !words::less(a, b),
+    if p.kind <= engine_cells::HELD || p.kind == engine_cells::NOTHING {
+        return Err(Stop::Unset);
+    }
+    Ok(Cell {
+        offset: words::add(p.offset, k),
+        ..p
+    })
+}
+
+// ---- operands
+// The int that the name at a place holds.
+#[tactic(auto, unfolding(record::specs::Decode::index_from))]
+fn int_at<const N: usize>(s: &[u8], place: usize, cells: &Cells<N>) -> Result<u64, Stop>
+    requires { place + 1 < length s.now }
+    ensures { result ≡ ok_or (int_held (store_in cells.now (index_from s.now place))) Stop.Unset }
+{
+    cells
+        .int(read_fields::number_of::<2>(s, place))
+        .ok_or(Stop::Unset)
+}
+
+// The bool that the name at a place holds.
+#[tactic(auto, unfolding(record::specs::Decode::index_from))]
+fn bool_at<const N: usize>(s: &[u8], place: usize, cells: &Cells<N>) -> Result<bool, Stop>
+    requires { place + 1 < length s.now }
+    ensures { result ≡ ok_or (bool_held (store_in cells.now (index_from s.now place))) Stop.Unset }
+{
+    cells
+        .bool(read_fields::number_of::<2>(s, place))
+        .ok_or(Stop::Unset)
+}
+
+// ---- operations
+// id, of the name at a place.
+#[tactic(auto, using(crate::proofs::Evals::copied, engine_cells::proofs::Store::name_at))]
+fn copy<const N: usize>(s: &[u8], place: usize, cells: &Cells<N>) -> Result<Cell, Stop>
+    requires { place + 1 < length s.now }
+    ensures { cells_held result ≡ told (eval (store_in cells.now) (one Id (index_from s.now place))) }
+{
+    let c = cells.get(read_fields::number_of::<2>(s, place));
+    if c.kind == engine_cells::NOTHING {
+        return Err(Stop::Unset);
+    }
+    Ok(c)
+}
+
+// What an operator of one name gives.
+#[tactic(auto, using(crate::proofs::Evals::of_one))]
+fn value_of_one<const N: usize>(s: &[u8], at: usize, o: One, cells: &Cells<N>) -> Result<Cell, Stop>
+    requires { at + 5 ≤ length s.now }
+    ensures { cells_held result ≡ told (eval (store_in cells.now) (one o (index_from s.now (at + 3)))) }
+{
+    match o {
+        One::Not => Ok(Cell::bool(!bool_at(s, at + 3, cells)?)),
+        One::Id => copy(s, at + 3, cells),
     }
 }
 
-// ---- operations of cells
-// An operation of the codes 1 to 14, whose operands lie in the record.
-#[derive(Clone, Copy)]
-struct Operation<'a> {
-    s: &'a [u8],
-    at: usize,
-    code: u64,
-    ghost least: { 1 ≤ code },
-    ghost inside: { at + (3 + 2 * operands code) ≤ length s.now },
-}
-
-impl<'a> Operation<'a> {
-    // The int that the name at a place holds.
-    fn int<const N: usize>(self, place: usize, cells: &Cells<N>) -> Result<u64, Stop>
-        requires { place + 1 < length self.s.now }
-        ensures { result ≡ ok_or (int_held (store_in cells.now (index_from self.entry.s.now place))) Stop.Unset }
-    {
-        cells
-            .int(read_fields::number_of::<2>(self.s, place))
-            .ok_or(Stop::Unset)
-    }
-
-    // The bool that the name at a place holds.
-    fn bool<const N: usize>(self, place: usize, cells: &Cells<N>) -> Result<bool, Stop>
-        requires { place + 1 < length self.s.now }
-        ensures { result ≡ ok_or (bool_held (store_in cells.now (index_from self.entry.s.now place))) Stop.Unset }
-    {
-        cells
-            .bool(read_fields::number_of::<2>(self.s, place))
-            .ok_or(Stop::Unset)
-    }
-
-    // add to ge, of two ints
-    fn of_ints<const N: usize>(self, cells: &Cells<N>) -> Result<Cell, Stop>
-        requires { self.code ≤ 9 }
-        ensures { cells_held result ≡ told (eval (store_in cells.now) (expr_at self.entry.code self.entry.s.now self.entry.at)) }
-    {
-        let a = self.int(self.at + 3, cells)?;
-        let b = self.int(self.at + 5, cells)?;
-        if self.code < 5 {
-            return Ok(Cell::int(sum(self.code, a, b)?));
+// What an operator of two names gives.
+#[tactic(auto, using(crate::proofs::Evals::of_two))]
+fn value_of_two<const N: usize>(s: &[u8], at: usize, o: Two, cells: &Cells<N>) -> Result<Cell, Stop>
+    requires { at + 7 ≤ length s.now }
+    ensures { cells_held result ≡
+        told (eval (store_in cells.now) (two o (index_from s.now (at + 3)) (index_from s.now (at + 5)))) }
+{
+    match o {
+        Two::And | Two::Or => of_bools(o, bool_at(s, at + 3, cells)?, bool_at(s, at + 5, cells)?),
+        Two::PtrAdd => {
+            let p = cells.get(read_fields::number_of::<2>(s, at + 3));
+            shift(p, int_at(s, at + 5, cells)?)
         }
-        Ok(Cell::bool(compared(self.code, a, b)))
-    }
-
-    // and and or, of two bools, both of which are there: && and || would only add a branch.
-    fn of_bools<const N: usize>(self, cells: &Cells<N>) -> Result<Cell, Stop>
-        requires { (11 ≤ self.code) × (self.code ≤ 12) }
-        ensures { cells_held result ≡ told (eval (store_in cells.now) (expr_at self.entry.code self.entry.s.now self.entry.at)) }
-    {
-        let a = self.bool(self.at + 3, cells)?;
-        let b = self.bool(self.at + 5, cells)?;
-        if self.code == 11 {
-            return Ok(Cell::bool(a & b));
-        }
-        Ok(Cell::bool(a | b))
-    }
-
-    // not
-    fn negate<const N: usize>(self, cells: &Cells<N>) -> Result<Cell, Stop>
-        requires { self.code ≡ 10 }
-        ensures { cells_held result ≡ told (eval (store_in cells.now) (expr_at self.entry.code self.entry.s.now self.entry.at)) }
-    {
-        Ok(Cell::bool(!self.bool(self.at + 3, cells)?))
-    }
-
-    // id
-    fn copy<const N: usize>(self, cells: &Cells<N>) -> Result<Cell, Stop>
-        requires { self.code ≡ 13 }
-        ensures { cells_held result ≡ told (eval (store_in cells.now) (expr_at self.entry.code self.entry.s.now self.entry.at)) }
-    {
-        let c = cells.get(read_fields::number_of::<2>(self.s, self.at + 3));
-        if c.kind == engine_cells::NOTHING {
-            return Err(Stop::Unset);
-        }
-        Ok(c)
-    }
-
-    // ptradd
-    fn shift<const N: usize>(self, cells: &Cells<N>) -> Result<Cell, Stop>
-        requires { self.code ≡ 14 }
-        ensures { cells_held result ≡ told (eval (store_in cells.now) (expr_at self.entry.code self.entry.s.now self.entry.at)) }
-    {
-        let p = cells.get(read_fields::number_of::<2>(self.s, self.at + 3));
-        if p.kind <= engine_cells::HELD || p.kind == engine_cells::NOTHING {
-            return Err(Stop::Unset);
-        }
-        let k = self.int(self.at + 5, cells)?;
-        Ok(Cell {
-            offset: words::add(p.offset, k),
-            ..p
-        })
-    }
-
-    // The value that it gives. not and id have one operand, the others two. A match, since a table of functions has to be made and called
-    // through at each step.
-    fn value<const N: usize>(self, cells: &Cells<N>) -> Result<Cell, Stop>
-        requires { self.code ≤ 14 }
-        ensures { cells_held result ≡ told (eval (store_in cells.now) (expr_at self.entry.code self.entry.s.now self.entry.at)) }
-    {
-        match self.code {
-            0..=9 => self.of_ints(cells),
-            10 => self.negate(cells),
-            11..=12 => self.of_bools(cells),
-            13 => self.copy(cells),
-            _ => self.shift(cells),
-        }
+        _ => of_ints(o, int_at(s, at + 3, cells)?, int_at(s, at + 5, cells)?),
     }
 }
 
-// Codes 1 to 14.
-pub fn operate<const N: usize>(
+// not and id
+#[tactic(auto, using(crate::proofs::Works::worked), unfolding(record::specs::Decode::index_from))]
+pub fn operate_one<const N: usize>(
     s: &[u8],
     at: usize,
-    code: u64,
+    o: One,
     cells: &mut Cells<N>,
 ) -> Result<(), Stop>
-    requires { ((1 ≤ code) × (code ≤ 14)) × Lies N s.now at (3 + 2 * operands code) }
+    requires { Lies N s.now at 5 }
     ensures { Works cells.old cells.new (index_from s.now at)
-        (eval (store_in cells.old) (expr_at code s.now at)) result }
+        (eval (store_in cells.old) (one o (index_from s.now (at + 3)))) result }
 {
-    let c = Operation { s, at, code }.value(cells)?;
+    let c = value_of_one(s, at, o, cells)?;
+    cells.set_cell(read_fields::number_of::<2>(s, at), c);
+    Ok(())
+}
+
+// The operators of two names.
+#[tactic(auto, using(crate::proofs::Works::worked), unfolding(record::specs::Decode::index_from))]
+pub fn operate_two<const N: usize>(
+    s: &[u8],
+    at: usize,
+    o: Two,
+    cells: &mut Cells<N>,
+) -> Result<(), Stop>
+    requires { Lies N s.now at 7 }
+    ensures { Works cells.old cells.new (index_from s.now at)
+        (eval (store_in cells.old) (two o (index_from s.now (at + 3)) (index_from s.now (at + 5)))) result }
+{
+    let c = value_of_two(s, at, o, cells)?;
     cells.set_cell(read_fields::number_of::<2>(s, at), c);
     Ok(())
 }
 
 // ---- const
 // The type byte of a literal of this kind in a name of type t: an int literal in a float is held as that literal.
-fn literal_kind(kind: u64, t: u64) -> u8
+#[tactic(auto, using(crate::proofs::Literals::in_float, crate::proofs::Literals::by_kind))]
+fn literal_kind(kind: u8, t: u8) -> u8
     requires { kind ≤ 3 }
     ensures { ((x : ℕ) → plain_from result x ≡ value_of t kind x) × (result ≤ held) }
 {
-    if kind == 0 {
-        return if t == u64::from(record::FLOAT) {
-            engine_cells::HELD
-        } else {
-            engine_cells::INT
-        };
+    if kind == record::INT && t == record::FLOAT {
+        return engine_cells::HELD;
     }
-    kind as u8
+    kind
 }
 
 // const; its literal passes check's tests.
+#[tactic(auto, using(crate::proofs::Literals::literal_set))]
 pub fn constant<const N: usize>(s: &[u8], at: usize, types: &[u8], cells: &mut Cells<N>)
     requires { (num_at s.now (at + 2) 1 ≤ 3) × Lies N s.now at 11 }
     ensures { store_in cells.new ≡
@@ -216,8 +196,8 @@ pub fn constant<const N: usize>(s: &[u8], at: usize, types: &[u8], cells: &mut C
 {
     let d = read_fields::number_of::<2>(s, at);
     let kind = literal_kind(
-        read_fields::byte_or(s, at + 2),
-        read_fields::byte_or(types, d as usize),
+        read_fields::u8_at(s, at + 2),
+        read_fields::type_of(types, d),
     );
     cells.set_plain(d, kind, read_fields::be::<8>(s, at + 3));
 }

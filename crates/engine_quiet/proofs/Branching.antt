@@ -6,12 +6,14 @@ use mathlib.Core.Option.{Option, none, some}
 use Rattle.std.proofs.Common.{None, Some, Err}
 use Rattle.arith.specs.Value.{Val}
 use Rattle.arith.specs.Operation.{as_bool}
+use Rattle.record.specs.declared.Op.TheVariants as op
 use Rattle.record.specs.Record.{nm, type_in}
 use Rattle.record.specs.Form.{branch, form}
 use Rattle.record.specs.Reader.{num_at}
 use Rattle.record.specs.Decode.{id_width, names_count, index_from}
 use Rattle.machine.specs.Machine.{bool_in}
 use Rattle.running.specs.Steps.{land}
+use Rattle.codes.specs.Op.{op_of}
 use Rattle.engine_cells.specs.declared.Cells.{Cells}
 use Rattle.engine_cells.specs.Cells.{bool_held, store_in}
 use Rattle.engine_cells.proofs.ByKind.{is_bool, is_no_bool}
@@ -34,14 +36,14 @@ a_bool o b e = ap bool_in (is_bool o b e)
 
 -- ---- x: the index of the name; row: the place behind the code
 module _
-    (g : Ground) (before : Cells 256) (p : Spot) (facing : Facing g p) (code : code_at g.s.now p.at ≡ 65)
+    (g : Ground) (before : Cells 256) (p : Spot) (facing : Facing g p) (coded : op.Br ≡ op_of (code_at g.s.now p.at))
     (row : ℕ) (er : row ≡ p.at + g.w + 1) (x : ℕ) (ex : x ≡ num_at g.s.now (row + 1) 2) (r : Run) where
   formed : form (type_in g.types.now) (here g.s.now p) ≡ branch (nm x) (num_at g.s.now (row + 3) 2) (num_at g.s.now (row + 5) 2)
   unfolding index_from
   formed =
       rw (ex, er, facing.grounded.width)
       (branch_form (id_width g.s.now) g.s.now p.at (names_count g.s.now)
-      (first_passes g.s.now p.at p.left facing.standing.sound facing.standing.some) (type_in g.types.now) code)
+      (first_passes g.s.now p.at p.left facing.standing.sound facing.standing.some) coded (type_in g.types.now))
 
   pub branch_lacks : None ≡ bool_held (store_in before (nm x)) → r ≡ Err Unset → Moved g before before p r
   branch_lacks n eq = branch_unset g before p facing r (nm x) _ _ formed (no_bool (store_in before (nm x)) n) eq

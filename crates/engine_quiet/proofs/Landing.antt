@@ -87,11 +87,12 @@ module _ (g : Ground) where
       pub land_empty : n ≡ 0 → lands (c + 1) ≡ lands b
       land_empty z = sym (first_none s c (q + 2 + 2) n (lands (c + 1)) z) ∙ sym there ∙ same
 
-      pub land_found : Laid g → 0 < n → Landed g (lands b) (Ok (record { block = c; at = q + 2 + 2; left = n }))
-      land_found laid some =
+      pub land_found :
+          (at : ℕ) → at ≡ q + 2 + 2 → Laid g → 0 < n → Landed g (lands b) (Ok (record { block = c; at = at; left = n }))
+      land_found at ea laid some =
           record {
-            stand = first_any s c (q + 2 + 2) n _ _ some ∙ sym there ∙ same;
-            standing = record { sound = rw (en, eq) (laid.each c h); placed = h; some = some };
+            stand = rw ea (first_any s c (q + 2 + 2) n _ _ some ∙ sym there ∙ same);
+            standing = record { sound = rw (ea, en, eq) (laid.each c h); placed = h; some = some };
             stop = λ e. cc e;
           }
 

@@ -1,16 +1,20 @@
 -- Where a run stands in the record, as the machine by steps has it, and what a step without an event does.
-use Rattle.std.specs.Prelude.{ℕ, ◌+◌, ◌<◌, ◌≤◌, List, [], map, Bool, true, ◌||◌, ◌≡◌, ◌≢◌, leb, eqb, length, get_or, Ok, Err, Result}
+use Rattle.std.specs.Prelude.{ℕ, ◌+◌, ◌-◌, ◌<◌, ◌≤◌, List, [], map, Bool, true, false, ◌||◌, ◌≡◌, ◌≢◌, leb, eqb, length, get_or, Ok, Err, Result}
 use Rattle.std.proofs.Math.Option.{none}
 use Rattle.arith.specs.Operation.{by_zero}
+use Rattle.record.specs.declared.Op.{Op}
+use Rattle.record.specs.declared.Op.TheVariants as op
 use Rattle.record.specs.Record.{Instr, Block, type_in}
 use Rattle.record.specs.Reader.{num_at}
-use Rattle.record.specs.Decode.{id_width, names_count}
+use Rattle.record.specs.Decode.{id_width, names_count, instr_end}
 use Rattle.record.specs.Again.{instrs_from, instrs_end, Passing, block_in}
 use Rattle.machine.specs.Machine.{Context, Answer, Stop, at_end, at_ret, at_halt, at_unset, at_division}
-use Rattle.running.specs.Steps.{Stand, over, Config, first_of, take_step}
+use Rattle.running.specs.Steps.{Stand, over, Config, first_of, land, take_step}
 use Rattle.running.specs.Engine.{fits_at}
 use Rattle.engine_cells.specs.Cells.{store_in}
 use Rattle.engine_cells.specs.declared.Cells.{Cells}
+use Rattle.engine_pure.specs.declared.Stop.{Stop as NoValue}
+use Rattle.engine_pure.specs.declared.Stop.TheVariants as lacks
 use Rattle.engine_quiet.specs.declared.Ground.{Ground}
 use Rattle.engine_quiet.specs.declared.Over.{Over}
 use Rattle.engine_quiet.specs.declared.Over.TheVariants.{End, Ret, Halt, Unset, Division, Unfit}
@@ -85,6 +89,18 @@ pub record Facing (g : Ground) (p : Spot) : Type 0 where
 unfoldable pub quiet : ℕ → Bool
 quiet code = leb code 14 || (eqb code 64 || (eqb code 65 || eqb code 69))
 
+-- the operations without an event
+unfoldable pub quiet_op : Op → Bool
+quiet_op op.Const = true
+quiet_op (op.One o) = true
+quiet_op (op.Two o) = true
+quiet_op (op.New c) = false
+quiet_op (op.Effect c) = false
+quiet_op op.Nop = true
+quiet_op op.Jmp = true
+quiet_op op.Br = true
+quiet_op op.Ret = false
+
 -- the code of the instruction at a place
 abbrev pub code_at : List ℕ → ℕ → ℕ
 code_at s at = num_at s (at + id_width s) 1
@@ -98,6 +114,13 @@ pub record Landed (g : Ground) (d : Stand) (r : Result Spot Over) : Type 0 where
   pub stand : stand_of g.s.now r ≡ d
   pub standing : Standing g r
   pub stop : r ≢ Err Unfit
+
+-- behind an operation at p, by what it answered: landed at the next instruction, or over
+unfoldable pub Behind : Ground → Spot → Result Unit NoValue → Result Spot Over → Type 0
+Behind g p (Ok u) r =
+    Landed g (first_of p.block (body_at g.s.now (instr_end (id_width g.s.now) g.s.now p.at) (p.left - 1)) (land (blocks_of g) (p.block + 1))) r
+Behind g p (Err lacks.Division) r = r ≡ Err (Division (num_at g.s.now p.at (id_width g.s.now)))
+Behind g p (Err lacks.Unset) r = r ≡ Err Unset
 
 -- from p to r: the machine's step, whatever answers are left, which takes none of them
 pub record Moved (g : Ground) (before after : Cells 256) (p : Spot) (r : Result Spot Over) : Type 0 where

@@ -1,23 +1,16 @@
-// Where a run stands in a record, and the instructions without an event: const, codes 1 to 14, jmp, br and nop.
-// as: a number that is known to fit, or u32 or u64 and usize, which have no From; try_from would hand out an error that cannot be.
+// Where a run stands in a record, and the instructions without an event: const, the operators, jmp, br and nop.
+// as: usize has no From of u32; try_from would give an error that cannot happen.
 #![tactic(auto)]
 
 ghost use Rattle.std.specs.Prelude.{◌≡◌, true, ◌+◌, ◌-◌, ◌<◌, ◌≤◌, length};
 ghost use Rattle.record.specs.Decode.{id_width, instr_end};
 ghost use Rattle.running.specs.Steps.{first_of, land};
-ghost use Rattle.engine_quiet.specs.Spot.{body_at, blocks_of, Laid, Before, Facing, quiet, code_at, Landed, Moved};
+ghost use Rattle.codes.specs.Op.{op_of};
+ghost use Rattle.engine_quiet.specs.Spot.{body_at, blocks_of, Laid, Before, Facing, quiet_op, code_at, Landed, Behind, Moved};
 
-use engine_cells::{Cells, NAMES};
+use engine_cells::Cells;
 use engine_pure::Stop;
-
-// The codes that the engine looks at by name.
-pub const JMP: u64 = 64;
-
-pub const BR: u64 = 65;
-
-pub const RET: u64 = 66;
-
-pub const NOP: u64 = 69;
+use record::{NAMES, Op};
 
 // What a run rests on: the record and the bytes of an id in it, the types of the names, the places of the blocks, and the answers.
 // Grounded, that the blocks lie in the record and their instructions pass, is asked of it where it is needed. It was tried as a ghost field,
@@ -32,6 +25,8 @@ pub struct Ground<'a> {
 }
 
 // How a run is over: at the end, by ret, halt or unset, or by the division with this id; or an answer did not fit.
+// No Ending of running: that has a limit, for which a run still stands at a spot, and has no case for an answer that does not fit, which
+// is an error there.
 #[derive(Clone, Copy, PartialEq, Eq, Debug)]
 pub enum Over {
     End,
@@ -59,14 +54,9 @@ pub fn land(g: &Ground, b: usize) -> Result<Spot, Over>
 {
     // By the number of the block, of which what is handed back speaks: enumerate and skip were tried, and are no shorter.
     for c in b..g.starts.len() {
-        let p = g.starts[c] as usize;
-        let n = read_fields::be::<2>(g.s, p) as usize;
-        if n > 0 {
-            return Ok(Spot {
-                block: c,
-                at: p + 2 + 2,
-                left: n,
-            });
+        let (left, at) = read_layout::block_head(g.s, g.starts[c] as usize);
+        if left > 0 {
+            return Ok(Spot { block: c, at, left });
         }
     }
     Err(Over::End)
@@ -91,8 +81,8 @@ pub fn onward(g: &Ground, next: usize, p: Spot) -> Result<Spot, Over>
 }
 
 // ---- one instruction
-// Facing g p: a value of both that kept it would be made for each instruction, and taken apart again wherever a run moves from p to the
-// next place, of which the contracts speak.
+// Facing g p, and op ≡ op_of (code_at ..): a value that kept them would be made for each instruction, and taken apart again wherever a run
+// moves from p to the next place, of which the contracts speak.
 
 // The place behind the code of the instruction at which the run stands.
 fn behind_code(g: &Ground, p: Spot) -> usize
@@ -103,20 +93,22 @@ fn behind_code(g: &Ground, p: Spot) -> usize
     p.at + g.w + 1
 }
 
-// Codes 1 to 14. A division that stops is told by its id, which Stop has not: so no From makes an Over of it.
-fn operate(g: &Ground, code: u64, cells: &mut Cells<NAMES>, p: Spot) -> Result<Spot, Over>
+// Where the run is behind an operation, by what that answered; next: the place of the next instruction. A division that stops is told by its
+// id, which Stop has not: so no From makes an Over of it. Inlined, since a step calls it from two places.
+#[inline(always)]
+#[tactic(auto, unfolding(crate::specs::Spot::Behind))]
+fn behind_operation(
+    g: &Ground,
+    worked: Result<(), Stop>,
+    next: usize,
+    p: Spot,
+) -> Result<Spot, Over>
     requires facing { Facing g.now p }
-    requires coded { code ≡ code_at g.now.s.now p.at }
-    requires least { 1 ≤ code }
-    requires most { code ≤ 14 }
-    ensures { Moved g.now cells.old cells.new p result }
+    requires next { next ≡ instr_end (id_width g.now.s.now) g.now.s.now p.at }
+    ensures { Behind g.now p worked result }
 {
-    let at = behind_code(g, p);
-    match engine_pure::operate(g.s, at, code, cells) {
-        Ok(()) => {
-            let n = read_fields::byte_or(g.s, at + 2) as usize;
-            onward(g, at + 3 + 2 * n, p)
-        }
+    match worked {
+        Ok(()) => onward(g, next, p),
         Err(Stop::Division) => Err(Over::Division(read_instrs::read_id(g.s, p.at, g.w))),
         Err(Stop::Unset) => Err(Over::Unset),
     }
@@ -125,40 +117,43 @@ fn operate(g: &Ground, code: u64, cells: &mut Cells<NAMES>, p: Spot) -> Result<S
 // br
 fn branch(g: &Ground, cells: &Cells<NAMES>, p: Spot) -> Result<Spot, Over>
     requires facing { Facing g.now p }
-    requires coded { code_at g.now.s.now p.at ≡ 65 }
+    requires coded { Op.Br ≡ op_of (code_at g.now.s.now p.at) }
     ensures { Moved g.now cells.now cells.now p result }
 {
     let row = behind_code(g, p);
     match cells.bool(read_fields::be::<2>(g.s, row + 1)) {
-        Some(true) => land(g, read_fields::be::<2>(g.s, row + 3) as usize),
-        Some(false) => land(g, read_fields::be::<2>(g.s, row + 5) as usize),
+        Some(true) => land(g, usize::from(read_fields::u16_at(g.s, row + 3))),
+        Some(false) => land(g, usize::from(read_fields::u16_at(g.s, row + 5))),
         None => Err(Over::Unset),
     }
 }
 
-// Whether a code has no event.
-pub fn quiet(code: u64) -> bool
-    ensures { result ≡ quiet code }
+// Whether an operation has no event.
+#[tactic(auto, unfolding(crate::specs::Spot::quiet_op))]
+pub fn quiet(op: Op) -> bool
+    ensures { result ≡ quiet_op op }
 {
-    matches!(code, 0..=14 | JMP | BR | NOP)
+    !matches!(op, Op::New(_) | Op::Effect(_) | Op::Ret)
 }
 
 // The instruction at which the run stands, which has no event.
-pub fn quiet_step(g: &Ground, code: u64, cells: &mut Cells<NAMES>, p: Spot) -> Result<Spot, Over>
+pub fn quiet_step(g: &Ground, op: Op, cells: &mut Cells<NAMES>, p: Spot) -> Result<Spot, Over>
     requires facing { Facing g.now p }
-    requires coded { code ≡ code_at g.now.s.now p.at }
-    requires quiet { quiet code ≡ true }
+    requires coded { op ≡ op_of (code_at g.now.s.now p.at) }
+    requires quiet { quiet_op op ≡ true }
     ensures { Moved g.now cells.old cells.new p result }
 {
     let at = behind_code(g, p);
-    match code {
-        0 => {
+    match op {
+        Op::Const => {
             engine_pure::constant(g.s, at, g.types, cells);
             onward(g, at + 11, p)
         }
-        1..=14 => operate(g, code, cells, p),
-        JMP => land(g, read_fields::be::<2>(g.s, at + 1) as usize),
-        BR => branch(g, cells, p),
+        Op::One(o) => behind_operation(g, engine_pure::operate_one(g.s, at, o, cells), at + 5, p),
+        Op::Two(o) => behind_operation(g, engine_pure::operate_two(g.s, at, o, cells), at + 7, p),
+        Op::Jmp => land(g, usize::from(read_fields::u16_at(g.s, at + 1))),
+        Op::Br => branch(g, cells, p),
+        // nop: what else has no event
         _ => onward(g, at + 1, p),
     }
 }

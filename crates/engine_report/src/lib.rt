@@ -1,5 +1,5 @@
 // What the program that runs an accession writes, put into lent buffers: the answer, the events and the final store.
-// as: a number that is known to fit, or u64 and usize, which have no From; try_from would hand out an error that cannot be.
+// as: u64 and usize have no From; try_from would give an error that cannot happen.
 #![tactic(auto)]
 
 ghost use Rattle.std.specs.Prelude.{◌≡◌, ◌+◌, ◌*◌, ◌≤◌, length, take};
@@ -7,13 +7,20 @@ ghost use Rattle.running.specs.Engine.{engine_answer};
 ghost use Rattle.running.specs.Program.{most_run_input, part_end, returned_bytes, refused_input, output_of, output_with, run_output};
 ghost use Rattle.engine_report.specs.Shows.{Shows, parts_of};
 
+use record::OWN_REFUSAL;
 use running::{Run, RunError};
 
-// The most bytes of an answer: its number and five values.
-const HEAD: usize = 41;
+// The bytes of the longest input that the program takes: `most_run_input` of running/specs/Program.
+pub const MOST_INPUT: usize = 262144;
 
-// The number of the program's own refusal, of an input that is too long or has no limit behind its parts.
-const REFUSED: u8 = 10;
+// The bytes of the program's buffer for the events: `events_room` of running/specs/Program.
+pub const EVENTS: usize = 1048576;
+
+// The bytes of the program's buffer for the final store: `store_room` of running/specs/Program.
+pub const STORE: usize = 8192;
+
+// The most bytes of an answer: its number and five values.
+pub const HEAD: usize = 41;
 
 // How many bytes of the answer, of the events and of the store are to be written, one part after the other.
 #[derive(Clone, Copy, PartialEq, Eq, Debug)]
@@ -36,7 +43,8 @@ impl Parts {
     }
 }
 
-// A number in one byte and each value in eight, from the first byte on; how many bytes they are.
+// A number in one byte and each value in eight, from the first byte on; how many bytes they are. write_instrs::put_row writes a list too: its
+// numbers are u16, of two bytes, and one function for both would have both lists as u64, as write_bytes::put_be takes them.
 fn put_returned(out: &mut [u8; HEAD], number: u8, values: &[u64]) -> usize
     requires { length values.now ≤ 5 }
     ensures end { result ≡ 1 + 8 * length values.now }
@@ -59,11 +67,11 @@ fn put_answer(out: &mut [u8; HEAD], a: Result<Run, RunError>) -> usize
     put_returned(out, n.number, n.given())
 }
 
-// 10 with its value, and nothing behind it.
+// The refusal of an input that is too long, or whose limit is not 8 bytes long: 10 with its value, and nothing behind it.
 fn put_refused(out: &mut [u8; HEAD], value: usize) -> Parts
     ensures { (result ≡ record { head = 9; events = 0; left = 0 }) × (take 9 out.new ≡ refused_input value) }
 {
-    Parts::answer(put_returned(out, REFUSED, &[value as u64]))
+    Parts::answer(put_returned(out, OWN_REFUSAL, &[value as u64]))
 }
 
 // Behind it stand events and store when the run is done.
@@ -128,17 +136,18 @@ fn run_input(s: &[u8], head: &mut [u8; HEAD], events: &mut [u8], left: &mut [u8]
     run_from(s, a, b, c, head, events, left)
 }
 
-// All that the program does between reading and writing: what it writes of the input stands first in the three buffers.
+// All that the program does between reading and writing: what it writes of the input stands first in the three buffers. Counts and not the bytes
+// themselves: of a buffer that a result is lent from, no clause says what it holds then.
 pub fn program(
     input: &[u8],
-    events: &mut [u8; 1048576],
-    left: &mut [u8; 8192],
+    events: &mut [u8; EVENTS],
+    left: &mut [u8; STORE],
     head: &mut [u8; HEAD],
 ) -> Parts
     ensures { Shows result head.new events.new left.new (run_output input.now) }
 {
-    if input.len() > 262144 {
-        return put_refused(head, 262144);
+    if input.len() > MOST_INPUT {
+        return put_refused(head, MOST_INPUT);
     }
     run_input(input, head, events, left)
 }

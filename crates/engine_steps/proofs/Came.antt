@@ -9,6 +9,7 @@ use lib.ListN.{length, get_or}
 use Rattle.std.proofs.Common.{Ok, Err}
 use Rattle.record.specs.Write.{join}
 use Rattle.record.specs.Decode.{id_width}
+use Rattle.record.specs.declared.Op.{Op}
 use Rattle.record.specs.Record.{Instr, Block}
 use Rattle.record.proofs.Rows.{one_more}
 use Rattle.machine.specs.Machine.{Context, Event}
@@ -17,11 +18,13 @@ use Rattle.running.specs.House.{events_bytes}
 use Rattle.running.specs.Engine.{fits_at, unfit_within}
 use Rattle.running.proofs.Shifted.{shifted_nothing, shifted_shifted, take_step_shifted, unfit_shifted}
 use Rattle.write_bytes.proofs.Wrote.{wrote_nothing}
+use Rattle.codes.specs.Op.{op_of}
 use Rattle.engine_cells.specs.declared.Cells.{Cells}
 use Rattle.engine_quiet.specs.declared.Ground.{Ground}
 use Rattle.engine_quiet.specs.declared.Over.TheVariants.{Unfit}
 use Rattle.engine_quiet.specs.declared.Spot.{Spot}
-use Rattle.engine_quiet.specs.Spot.{told_types, blocks_of, stand_of, at_spot, quiet, code_at, Grounded, Facing, Moved}
+use Rattle.engine_quiet.specs.Spot.{told_types, blocks_of, stand_of, at_spot, quiet, quiet_op, code_at, Grounded, Facing, Moved}
+use Rattle.engine_quiet.proofs.Spots.{quiet_of}
 use Rattle.engine_quiet.proofs.Moved.{Run}
 use Rattle.engine_events.specs.declared.Turn.{Turn}
 use Rattle.engine_events.specs.Turn.{config_in, answers_left, ahead_of, events_ahead, Ready, Going, Stepped}
@@ -36,9 +39,15 @@ stands h ready here = record { grounded = h; ready = ready; here = here }
 pub faces : {g : Ground} {t : Turn} {p : Spot} → Going g p t → Facing g p
 faces h = record { grounded = h.grounded; standing = before_of h }
 
--- its code, as the code reads it
-pub coded : {g : Ground} (at : ℕ) {code : ℕ} → Grounded g → code ≡ get_or g.s.now (at + g.w) 0 → code ≡ code_at g.s.now at
-coded {g} at h e = e ∙ ap (λ (k : ℕ). get_or g.s.now (at + k) 0) h.width
+-- its operation, as the code reads it
+pub coded :
+    {g : Ground} (at : ℕ) {code : ℕ} {o : Op} → Grounded g → code ≡ get_or g.s.now (at + g.w) 0 → o ≡ op_of code →
+    o ≡ op_of (code_at g.s.now at)
+coded {g} at h e f = f ∙ ap op_of (e ∙ ap (λ (k : ℕ). get_or g.s.now (at + k) 0) h.width)
+
+-- it has no event by the one as by the other
+pub quiet_by : (c : ℕ) (o : Op) → o ≡ op_of c → quiet_op o ≡ quiet c
+quiet_by c o e = ap quiet_op e ∙ quiet_of c
 
 -- ---- a step without an event
 -- standing elsewhere

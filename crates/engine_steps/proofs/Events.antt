@@ -1,8 +1,9 @@
 -- The bytes of events in a row: those of the first ones and of the others, and no bytes only where there is no event.
 use Prim.Native.Nat.{ℕ, ◌<◌}
-use mathlib.Core.Path.{◌≡◌, refl, sym, ap, ◌∙◌}
-use mathlib.Core.List.{List, [], ◌∷◌, ◌++◌, map, append_assoc}
+use mathlib.Core.Path.{◌≡◌, refl}
+use mathlib.Core.List.{List, [], ◌∷◌, ◌++◌, map}
 use native.Mathlib.Omega.{arith}
+use Rattle.running.proofs.Bounds.{events_append}
 use lib.ListN.{length, length-append}
 use Rattle.record.specs.Write.{be, join}
 use Rattle.record.proofs.Stands.{length_be}
@@ -10,13 +11,6 @@ use Rattle.machine.specs.Machine.{Event}
 use Rattle.running.specs.House.{value_bytes, event_bytes, events_bytes}
 use Rattle.write_bytes.specs.Put.{Wrote}
 use Rattle.write_bytes.proofs.Wrote.{wrote_append}
-
-events_append : (w : ℕ) (es fs : List Event) → events_bytes w (es ++ fs) ≡ events_bytes w es ++ events_bytes w fs
-unfolding events_bytes join
-events_append w [] fs = refl
-events_append w (e ∷ es) fs =
-    ap (λ (l : List ℕ). event_bytes w e ++ l) (events_append w es fs) ∙
-    sym (append_assoc (event_bytes w e) (events_bytes w es) (events_bytes w fs))
 
 pub events_then :
     {l m r : List ℕ} {i p q : ℕ} (w : ℕ) (es fs : List Event) →

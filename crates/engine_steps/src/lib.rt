@@ -4,35 +4,37 @@
 #![tactic(auto)]
 
 ghost use Rattle.std.specs.Prelude.{◌≡◌, Err, true, not, ◌&&◌, ◌≢◌};
-ghost use Rattle.engine_quiet.specs.Spot.{Grounded, quiet, code_at};
+ghost use Rattle.codes.specs.Op.{op_of};
+ghost use Rattle.engine_quiet.specs.Spot.{Grounded, quiet_op, code_at};
 ghost use Rattle.engine_events.specs.Turn.{Ready, Going, Stepped};
 ghost use Rattle.engine_steps.specs.Came.{Calm, Came};
 
-use engine_cells::{Cells, NAMES};
+use engine_cells::Cells;
 use engine_events::Turn;
 use engine_quiet::{Ground, Over, Spot};
+use record::{NAMES, Op};
 
-// Whether the run waits before an instruction of this code: events are not told yet, and it has one.
-fn waits(code: u64, t: Turn) -> bool
-    ensures { result ≡ (not t.tells && not (quiet code)) }
+// Whether the run waits before an instruction of this operation: events are not told yet, and it has one.
+fn waits(op: Op, t: Turn) -> bool
+    ensures { result ≡ (not t.tells && not (quiet_op op)) }
 {
-    !engine_quiet::quiet(code) && !t.tells
+    !engine_quiet::quiet(op) && !t.tells
 }
 
 // The instruction at which the run stands.
-fn step(g: &Ground, code: u64, cells: &mut Cells<NAMES>, out: &mut [u8], p: Spot, t: Turn) -> Turn
+fn step(g: &Ground, op: Op, cells: &mut Cells<NAMES>, out: &mut [u8], p: Spot, t: Turn) -> Turn
     requires going { Going g.now p t }
-    requires coded { code ≡ code_at g.now.s.now p.at }
+    requires coded { op ≡ op_of (code_at g.now.s.now p.at) }
     ensures { Stepped g.now cells.old cells.new out.old out.new t result ×
-        (quiet (code_at g.now.s.now p.at) ≡ true → Calm t result) }
+        (quiet_op op ≡ true → Calm t result) }
 {
-    if engine_quiet::quiet(code) {
+    if engine_quiet::quiet(op) {
         return Turn {
-            spot: engine_quiet::quiet_step(g, code, cells, p),
+            spot: engine_quiet::quiet_step(g, op, cells, p),
             ..t
         };
     }
-    engine_events::event_step(g, cells, out, p, t)
+    engine_events::event_step(g, op, cells, out, p, t)
 }
 
 // As many steps as may be taken; where events are not told yet, as far as the first instruction with one.
@@ -53,13 +55,13 @@ pub fn steps(g: &Ground, cells: &mut Cells<NAMES>, out: &mut [u8], mut t: Turn) 
         if t.more == 0 {
             return t;
         }
-        let code = read_fields::byte_or(g.s, p.at + g.w);
-        if waits(code, t) {
+        let op = codes::op_of(read_fields::u8_at(g.s, p.at + g.w));
+        if waits(op, t) {
             return t;
         }
         t = Turn {
             more: t.more - 1,
-            ..step(g, code, cells, out, p, t)
+            ..step(g, op, cells, out, p, t)
         };
     }
 }

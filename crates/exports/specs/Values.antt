@@ -1,6 +1,7 @@
 -- What an entry leaves in the numbers that a caller lends it: the values of its answer, and the place of a name's text.
-use Rattle.std.specs.Prelude.{ℕ, ◌+◌, ◌≤◌, cond, List, [], ◌∷◌, length, get_or}
-use Rattle.record.specs.Answer.{Returned}
+use Rattle.std.specs.Prelude.{ℕ, ◌+◌, ◌≤◌, cond, List, [], ◌∷◌, length, get_or, Result, Ok, Err}
+use Rattle.record.specs.Answer.{Returned, success}
+use Rattle.numbering.specs.declared.Totals.{Totals}
 use Rattle.numbering.specs.NameText.{NameText, name_answer}
 
 -- a value of an answer, 0 where the answer has none
@@ -9,6 +10,11 @@ value a i = get_or a.values i 0
 
 abbrev pub values : Returned → List ℕ
 values a = value a 0 ∷ value a 1 ∷ []
+
+-- of totals, or of a refusal with this answer
+unfoldable pub told_as : {E : Type 0} → (E → Returned) → Result Totals E → Returned
+told_as answer (Ok t) = success (t.bytes ∷ t.saves ∷ [])
+told_as answer (Err e) = answer e
 
 -- of a run
 abbrev pub run_values : Returned → List ℕ

@@ -1,6 +1,6 @@
 // The library for other languages: check, rewrite, figures, name text and running, called as C functions. Each returns 0, or the number of
 // its refusal, and leaves the values that go with it in a lent place; include/lvn.h says the same for C. A slice is a pointer and a length
-// there.
+// there. C has no Result, so the number and the values stand apart.
 #![tactic(auto)]
 
 ghost use Rattle.std.specs.Prelude.{◌≡◌};
@@ -9,7 +9,9 @@ ghost use Rattle.numbering.specs.Rewrite.{rewrite_answer, rewrite, rewrite_leave
 ghost use Rattle.numbering.specs.Figures.{figures_answer, figures, figures_leaves};
 ghost use Rattle.numbering.specs.NameText.{name_answer, name_text};
 ghost use Rattle.running.specs.Engine.{engine, engine_events, engine_store, engine_answer};
-ghost use Rattle.exports.specs.Values.{value, values, run_values, place_values, LiesWithin};
+ghost use Rattle.exports.specs.Values.{value, values, told_as, run_values, place_values, LiesWithin};
+
+use numbering::{Refuses, Totals};
 
 // Whether the bytes are a record of a function. offset: that of the fault; 0 if there is none.
 #[unsafe(no_mangle)]
@@ -30,18 +32,14 @@ pub extern "C" fn lvn_check(input: &[u8], offset: &mut usize) -> u8
     }
 }
 
-// The rewriting of a record, written whole or not at all. answer: bytes written and saves; or the offset of the fault, or the bytes needed,
-// and 0.
-#[unsafe(no_mangle)]
-#[tactic(auto, unfolding(numbering::specs::Rewrite::rewrite_answer))]
-pub extern "C" fn lvn_rewrite(input: &[u8], output: &mut [u8], answer: &mut [usize; 2]) -> u8
-    ensures { (result ≡ (rewrite_answer (rewrite input.now output.old)).number) ×
-        ((answer.new ≡ values (rewrite_answer (rewrite input.now output.old))) ×
-        (output.new ≡ rewrite_leaves input.now output.old)) }
+// The number that rewrite and figures return, and what they leave: bytes and saves; or the value of a refusal, and 0.
+#[tactic(auto, unfolding(crate::specs::Values::told_as))]
+fn told<E: Refuses>(a: Result<Totals, E>, answer: &mut [usize; 2]) -> u8
+    ensures { (result ≡ (told_as E.answer a).number) × (answer.new ≡ values (told_as E.answer a)) }
 {
-    match rewrite::rewrite(input, output) {
-        Ok(written) => {
-            *answer = [written.bytes, written.saves];
+    match a {
+        Ok(t) => {
+            *answer = [t.bytes, t.saves];
             0
         }
         Err(e) => {
@@ -51,25 +49,28 @@ pub extern "C" fn lvn_rewrite(input: &[u8], output: &mut [u8], answer: &mut [usi
     }
 }
 
+// The rewriting of a record, written whole or not at all. answer: bytes written and saves; or the offset of the fault, or the bytes needed,
+// and 0.
+#[unsafe(no_mangle)]
+#[tactic(auto, using(crate::proofs::Answered::rewrite_told))]
+pub extern "C" fn lvn_rewrite(input: &[u8], output: &mut [u8], answer: &mut [usize; 2]) -> u8
+    ensures { (result ≡ (rewrite_answer (rewrite input.now output.old)).number) ×
+        ((answer.new ≡ values (rewrite_answer (rewrite input.now output.old))) ×
+        (output.new ≡ rewrite_leaves input.now output.old)) }
+{
+    told(rewrite::rewrite(input, output), answer)
+}
+
 // The figures of a record, worked out without an output. answer: the bytes that its rewriting needs and its saves, and the first places hold
 // the instructions of its blocks; or the offset of the fault and 0; or 0 and 0 where there are fewer places than blocks.
 #[unsafe(no_mangle)]
-#[tactic(auto, unfolding(numbering::specs::Figures::figures_answer))]
+#[tactic(auto, using(crate::proofs::Answered::figures_told))]
 pub extern "C" fn lvn_figures(input: &[u8], places: &mut [u16], answer: &mut [usize; 2]) -> u8
     ensures { (result ≡ (figures_answer (figures input.now places.old)).number) ×
         ((answer.new ≡ values (figures_answer (figures input.now places.old))) ×
         (places.new ≡ figures_leaves input.now places.old)) }
 {
-    match figures::figures(input, places) {
-        Ok(counted) => {
-            *answer = [counted.bytes, counted.saves];
-            0
-        }
-        Err(e) => {
-            *answer = [e.value(), 0];
-            e.number()
-        }
-    }
+    told(figures::figures(input, places), answer)
 }
 
 // The place of a name's text. answer: the offset that goes with a refusal; then 0 for the input or 1 for the rewriting, where the text

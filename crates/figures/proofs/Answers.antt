@@ -26,8 +26,6 @@ use Rattle.numbering.specs.Figures.{instructions, block_figures, figures_result,
 use Rattle.numbering.proofs.Ahead.{figures_many}
 use Rattle.write_bytes.specs.Put.{put}
 use Rattle.write_bytes.proofs.Put.{put_first}
-use Rattle.read_layout.specs.declared.Layout.{Layout}
-use Rattle.read_layout.specs.Layout.{layout_of}
 use Rattle.lvn_blocks.specs.Block.{indexes}
 use Rattle.rewrite.specs.Parts.{rewriting_in, figures_in, blocks_bytes}
 use Rattle.rewrite.proofs.Known.{front_measured}
@@ -79,16 +77,6 @@ module _ (s each : List ℕ) (count : ℕ) (b : count ≡ num_at s (names_end s)
         e ∙ put_first each (figures_in s) (omega (arith, many, figures_many (record_from s), l)) ∙
             ap (λ (m : ℕ). figures_in s ++ drop m each) (figures_many (record_from s)),
       )
-
--- ---- B as the head says it
-module _ (s : List ℕ) (l : Layout) (e : l ≡ layout_of s) where
-  pub count_is : l.blocks ≡ num_at s (names_end s) 2
-  unfolding layout_of
-  count_is = ap (λ (x : Layout). x.blocks) e
-
-  pub count_at : num_at s l.end 2 ≡ l.blocks
-  unfolding layout_of
-  count_at = ap (λ (x : Layout). num_at s x.end 2) e ∙ sym count_is
 
 -- ---- no block: nothing is numbered, and no name is made
 module _ {s : List ℕ} {end : ℕ} (h : Reads s end) (z : num_at s end 2 ≡ 0) where

@@ -2,23 +2,20 @@
 // nothing is written but how many instructions each has.
 #![tactic(auto)]
 
-ghost use Rattle.std.specs.Prelude.{Ok, ◌≡◌, ◌*◌, ◌≤◌, length};
+ghost use Rattle.std.specs.Prelude.{Ok, ◌≡◌, ◌≤◌, length};
 ghost use Rattle.record.specs.Reader.{num_at};
 ghost use Rattle.record.specs.Answer.{checked};
-ghost use Rattle.record.specs.Sizes.{most_body};
 ghost use Rattle.numbering.specs.Figures.{figures, figures_leaves};
-ghost use Rattle.rewrite.specs.Parts.{Typed};
+ghost use Rattle.rewrite.specs.Parts.{Ready, Typed};
 ghost use Rattle.figures.specs.Answers.{FiguredAs};
 
 use lvn_blocks::BlockState;
-use lvn_state::NAMES;
 use numbering::{FiguresError, Totals};
 use rewrite::Opened;
 
 // Of an accepted record, with a place for each block. names: a table for what each K saves.
 pub fn figures_noting(src: &Opened, names: &mut [u16], each: &mut [u16]) -> Totals
-    requires { Typed src.now × ((most_body * num_at src.now.reads.now src.now.end 2 ≤ length names.old) ×
-        (num_at src.now.reads.now src.now.end 2 ≤ length each.old)) }
+    requires { Ready src.now names.old × (num_at src.now.reads.now src.now.end 2 ≤ length each.old) }
     ensures { FiguredAs src.now.reads.now each.old (Ok result) each.new }
 {
     let mut st = BlockState::new();
@@ -31,39 +28,37 @@ pub fn figures_typed(src: &Opened, each: &mut [u16]) -> Totals
     ensures { FiguredAs src.now.reads.now each.old (Ok result) each.new }
 {
     let noting = |names: &mut [u16], e: &mut [u16]|
-        requires { Typed src.now × ((most_body * num_at src.now.reads.now src.now.end 2 ≤ length names.old) ×
-            (num_at src.now.reads.now src.now.end 2 ≤ length e.old)) }
+        requires { Ready src.now names.old × (num_at src.now.reads.now src.now.end 2 ≤ length e.old) }
         ensures { FiguredAs src.entry.now.reads.now e.old (Ok result) e.new }
     { figures_noting(src, names, e) };
     rewrite::with_table(read_fields::be::<2>(src.reads, src.end), each, noting)
 }
 
-// Of an accepted record: the types and places of its names; whether each block has a place; then the rest. One without blocks is its own
-// rewriting.
+// Of a record laid open: whether each block has a place; then the rest. One without blocks is its own rewriting.
+fn figures_opened(src: &Opened, each: &mut [u16]) -> Result<Totals, FiguresError>
+    requires { Typed src.now }
+    ensures { FiguredAs src.now.reads.now each.old result each.new }
+{
+    let blocks = usize::from(read_fields::u16_at(src.reads, src.end));
+    if each.len() < blocks {
+        return Err(FiguresError::TooFew);
+    }
+    if blocks == 0 {
+        return Ok(Totals {
+            bytes: src.end + 2,
+            saves: 0,
+        });
+    }
+    Ok(figures_typed(src, each))
+}
+
+// Of an accepted record.
 pub fn figures_accepted(s: &[u8], each: &mut [u16]) -> Result<Totals, FiguresError>
     requires { checked s.now ≡ Ok tt }
     ensures { (result ≡ figures s.now each.old) ×
         (each.new ≡ figures_leaves s.now each.old) }
 {
-    let mut types = [0u8; NAMES];
-    let mut places = [0u32; NAMES];
-    let layout = read_layout::layout_of(s, &mut types, &mut places);
-    if each.len() < layout.blocks {
-        return Err(FiguresError::TooFew);
-    }
-    if layout.blocks == 0 {
-        return Ok(Totals {
-            bytes: layout.end + 2,
-            saves: 0,
-        });
-    }
-    let src = Opened {
-        reads: s,
-        types: &types[..usize::from(layout.names)],
-        places: &places,
-        end: layout.end,
-    };
-    Ok(figures_typed(&src, each))
+    rewrite::with_opened(s, each, figures_opened)
 }
 
 // The figures of a record: the bytes and saves of its rewriting, and at the first places the instructions of its blocks; or check's

@@ -7,6 +7,7 @@ ghost use Rattle.std.specs.Prelude.{IfSome, OnOk};
 ghost use Rattle.std.specs.Io.KnownBytes.{Appends};
 ghost use Rattle.numbering.specs.Program.{program_output};
 
+use report::{BUFFER, MOST_INPUT};
 use std::io;
 use std::io::{Read, Write};
 
@@ -16,8 +17,9 @@ pub fn run<R: Read, W: Write>(reader: &mut R, writer: &mut W) -> io::Result<()>
     ensures { OnOk result (IfSome (R.remaining reader.old)
         (λ xs. Appends (W.contents writer.old) (W.contents writer.new) (program_output xs))) }
 {
-    let mut input = [0u8; 8193];
-    let mut buffer = [0u8; 65536];
+    let mut input = [0u8; MOST_INPUT + 1];
+    let mut buffer = [0u8; BUFFER];
+    // Counts of what stands first in the arrays: of one that a result is lent from, no clause says what it holds then.
     let count = read_input::read_full(reader, &mut input)?;
     let n = report::program(&input[..count], &mut buffer);
     writer.write_all(&buffer[..n])

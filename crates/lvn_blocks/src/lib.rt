@@ -1,6 +1,5 @@
 // The rewriting of a block and of all blocks: instructions of an accepted record read again, numbered and written.
 // Writing past the end does nothing, so that over an empty output the same functions learn the size and K.
-// as: a number that is known to fit, or u64 and usize, which have no From; try_from would hand out an error that cannot be.
 #![tactic(auto)]
 
 ghost use Rattle.std.specs.Prelude.{◌≡◌, List, [], ◌∷◌, ◌++◌, ◌+◌, ◌^◌, ◌<◌, ◌≤◌, length};
@@ -17,13 +16,13 @@ ghost use Rattle.lvn_blocks.specs.Blocks.{BlocksAsk, BlockDone, BlocksDone};
 
 use arith::One;
 use lvn_instr::Emitted;
-use lvn_state::{LvnState, NAMES};
+use lvn_state::LvnState;
 use lvn_values::NUMBERS;
 use read_layout::Layout;
-use record::{Instruction, NameIx};
+use record::{Instruction, NAMES, NameIx};
 
 // An accepted record: its bytes, what its head says, and the types of its names.
-#[derive(Clone, Copy)]
+#[derive(Clone, Copy, PartialEq, Eq, Debug)]
 pub struct Source<'a> {
     pub reads: &'a [u8],
     pub layout: Layout,
@@ -136,8 +135,8 @@ pub fn put_block_head(out: &mut [u8], at: usize, n: u16, saves: u16)
     write_bytes::put_u16(out, at + 2, saves);
 }
 
-// K, which runs on from block to block, and the saves of all blocks so far. Over all blocks of a record both begin at 0 and are one number;
-// block_lvn is asked for them apart, as of blocks that others stand before (DECISIONS 38).
+// K, which runs on from block to block, and the saves of all blocks so far. For a whole record both begin at 0 and stay equal; document 01 asks
+// for both, and the contract of block_lvn holds for any two.
 #[derive(Clone, Copy, PartialEq, Eq, Debug)]
 pub struct SaveCount {
     pub k: u16,
@@ -164,17 +163,17 @@ pub fn block_lvn(
     ensures { BlockDone src.now.layout src.now.reads.now (type_in src.now.types.now) at count.old result count.new
         names.old names.new out.old out.new }
 {
-    let n = read_fields::be::<2>(src.reads, at.p) as usize;
+    let n = read_fields::u16_at(src.reads, at.p);
     let k = count.k;
     st.restart(src.layout.args, k);
     let from = Spot {
         p: at.p + 4,
         q: at.q + 4,
     };
-    let end = body_lvn(st, src, names, out, from, n);
+    let end = body_lvn(st, src, names, out, from, usize::from(n));
     let made = st.made();
     let saves = made - k;
-    put_block_head(out, at.q, n as u16 + saves, saves);
+    put_block_head(out, at.q, n + saves, saves);
     count.k = made;
     count.total += saves;
     end
@@ -185,7 +184,7 @@ pub fn note_figure(s: &[u8], each: &mut [u16], i: usize, p: usize, saves: u16)
     requires { (p < places_end) × (num_at s.now p 2 + saves < 65536) }
     ensures { each.new ≡ put each.old i ((num_at s.now p 2 + saves) ∷ []) }
 {
-    read_layout::store(each, i, read_fields::be::<2>(s, p) as u16 + saves);
+    read_layout::store(each, i, read_fields::u16_at(s, p) + saves);
 }
 
 // All blocks, from a place on; each: a table for how many instructions are written of each block.

@@ -23,7 +23,8 @@ use Rattle.numbering.specs.declared.ValNum.{ValNum}
 use Rattle.numbering.specs.State.{State, number_of, known}
 use Rattle.numbering.specs.Simplify.{simplify1, simplify2, simplify}
 use Rattle.numbering.specs.Number.{numbered, make_val}
-use Rattle.numbering.proofs.Simplified.{Closed, OptionOk, MaybeOk, simplify_ok}
+use Rattle.numbering.proofs.Given.{any_closed, any_known}
+use Rattle.numbering.proofs.Simplified.{MaybeOk, simplify_ok}
 use Rattle.codes.specs.Op.{form_as}
 use Rattle.lvn_instr.specs.View.{Ready, value_by, Any}
 use Rattle.lvn_instr.proofs.Forms.{instr_form, one_arg, two_args}
@@ -54,13 +55,6 @@ numbered_any n false v = tt
 pub const_ok : (n : ℕ) (s : State) (v : Val) → MaybeOk Any n (make_val s (constant v))
 unfolding make_val
 const_ok n s v = numbered_any n (numbered v) v
-
-any_closed : Closed Any
-any_closed = record { ints = λ w l. tt; bools = λ b. tt; pointers = λ t b o. tt }
-
-any_known : (o : Option Val) → OptionOk Any o
-any_known none = tt
-any_known (some v) = tt
 
 -- ---- operators
 module _ (s : State) {r : Option (Expr ValNum)} where

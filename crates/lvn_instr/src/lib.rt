@@ -28,7 +28,7 @@ use numbering::{Constant, ValNum, Value};
 use record::{Instruction, Literal, NameIx, Op, Row};
 
 // The made name of the save that is written before an instruction, where one is owed, and what the instruction is written as.
-#[derive(Clone, Copy)]
+#[derive(Clone, Copy, Debug)]
 pub struct Emitted {
     pub made: Option<NameIx>,
     pub instr: Instruction,
@@ -314,13 +314,6 @@ pub fn emit<const M: usize, const N: usize>(
     }
 }
 
-// The type of a name.
-pub fn type_of(types: &[u8], x: NameIx) -> u8
-    ensures { result ≡ type_in types.now x }
-{
-    *types.get(usize::from(x.0)).unwrap_or(&0)
-}
-
 // One instruction of a block. n: how many names the input has; types: their types.
 pub fn instr_lvn<const M: usize, const N: usize>(
     st: &mut LvnState<M, N>,
@@ -332,7 +325,7 @@ pub fn instr_lvn<const M: usize, const N: usize>(
         ((room M (state_of st.old) < N) × ((n + st.old.made < 65535) × Maps M N))) }
     ensures { emitted_of (state_of st.new) result ≡ instr_lvn n (type_in types.now) (state_of st.old) (instr_of i) }
 {
-    let t = type_of(types, i.dest);
+    let t = read_fields::type_of(types, u64::from(i.dest.0));
     st.gen_new_vals(i.args.as_slice());
     let v = make_val(st, &i, t);
     let j = rewrite_instr(st, i);

@@ -6,6 +6,7 @@ ghost use Rattle.std.specs.Prelude.{IfSome, OnOk};
 ghost use Rattle.std.specs.Io.KnownBytes.{Appends};
 ghost use Rattle.running.specs.Program.{run_output};
 
+use engine_report::{EVENTS, HEAD, MOST_INPUT, STORE};
 use std::io;
 use std::io::{Read, Write};
 
@@ -14,14 +15,15 @@ use std::io::{Read, Write};
 pub fn run<R: Read, W: Write>(
     reader: &mut R,
     writer: &mut W,
-    input: &mut [u8; 262145],
-    events: &mut [u8; 1048576],
-    left: &mut [u8; 8192],
+    input: &mut [u8; MOST_INPUT + 1],
+    events: &mut [u8; EVENTS],
+    left: &mut [u8; STORE],
 ) -> io::Result<()>
     ensures { OnOk result (IfSome (R.remaining reader.old)
         (λ xs. Appends (W.contents writer.old) (W.contents writer.new) (run_output xs))) }
 {
-    let mut head = [0u8; 41];
+    let mut head = [0u8; HEAD];
+    // Counts of what stands first in the arrays: of one that a result is lent from, no clause says what it holds then.
     let n = read_input::read_full(reader, input)?;
     let parts = engine_report::program(&input[..n], events, left, &mut head);
     writer.write_all(&head[..parts.head])?;
@@ -30,9 +32,9 @@ pub fn run<R: Read, W: Write>(
 }
 
 fn main(rt: HostRuntime) -> io::Result<()> {
-    let mut input = [0u8; 262145];
-    let mut events = [0u8; 1048576];
-    let mut left = [0u8; 8192];
+    let mut input = [0u8; MOST_INPUT + 1];
+    let mut events = [0u8; EVENTS];
+    let mut left = [0u8; STORE];
     run(
         &mut rt.stdin(),
         &mut rt.stdout(),

@@ -17,7 +17,7 @@ use arith::{One, Two};
 use numbering::{Constant, ValNum, Value};
 
 // An operand: its number, and the constant of that number, where it is known.
-#[derive(Clone, Copy)]
+#[derive(Clone, Copy, PartialEq, Eq, Debug)]
 pub struct Operand {
     pub num: ValNum,
     pub known: Option<Constant>,
@@ -30,7 +30,7 @@ pub struct Operand {
 pub fn fold_quotient(v: u64, w: u64) -> Option<Constant>
     ensures { fold_of result ≡ folded (divide v w) }
 {
-    words::divide(v, w).map(|q| Constant::Int(q))
+    words::divide(v, w).map(Constant::Int)
 }
 
 // The fold of two ints.
@@ -58,8 +58,8 @@ pub fn fold_bools(o: Two, v: bool, w: bool) -> Option<Constant>
     ensures { fold_of result ≡ folded (apply2 o (bool v) (bool w)) }
 {
     match o {
-        Two::And => Some(Constant::Bool(v & w)),
-        Two::Or => Some(Constant::Bool(v | w)),
+        Two::And => Some(Constant::Bool(v && w)),
+        Two::Or => Some(Constant::Bool(v || w)),
         _ => None,
     }
 }
@@ -113,7 +113,7 @@ pub fn fold_one(o: One, x: Operand) -> Option<Constant>
 pub fn is_int(n: u64, known: Option<Constant>) -> bool
     ensures { result ≡ is_int n (known_of known) }
 {
-    matches!(known, Some(Constant::Int(w)) if w == n)
+    known == Some(Constant::Int(n))
 }
 
 // Whether this bool is known.
@@ -121,7 +121,7 @@ pub fn is_int(n: u64, known: Option<Constant>) -> bool
 pub fn is_bool(b: bool, known: Option<Constant>) -> bool
     ensures { result ≡ is_bool b (known_of known) }
 {
-    matches!(known, Some(Constant::Bool(w)) if w == b)
+    known == Some(Constant::Bool(b))
 }
 
 // "0 + y is id y; .. likewise on the other side".

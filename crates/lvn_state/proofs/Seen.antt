@@ -1,8 +1,9 @@
 -- The arguments of an instruction seen one after another, as a loop over them has it.
 use Prim.Native.Nat.{ℕ, suc, ◌+◌, ◌<◌, ◌≤◌}
-use mathlib.Core.Path.{◌≡◌, refl, sym, ap, ◌∙◌, subst}
+use mathlib.Core.Path.{◌≡◌, sym, ap, ◌∙◌, subst}
 use mathlib.Core.List.{List, [], ◌∷◌, ◌++◌, map}
 use native.Mathlib.Omega.{arith}
+use Rattle.std.proofs.lemmas.List.{map_push}
 use native.Mathlib.Numerals.{add-one}
 use lib.ListN.{length, get_or, set, take, drop, drop_of_length-le}
 use lib.Seq.{drop-cons, take-suc, take-suc-set}
@@ -55,10 +56,6 @@ module _ {m n : ℕ} {s₀ : State} {l : List ℕ} {s : State} {i : ℕ} (a : Se
       }
 
 -- ---- arguments replaced
-map_last : {X Y : Type 0} (f : X → Y) (l : List X) (x : X) → map f (l ++ (x ∷ [])) ≡ map f l ++ (f x ∷ [])
-map_last f [] x = refl
-map_last f (y ∷ l) x = ap (λ m. f y ∷ m) (map_last f l x)
-
 -- one more argument replaced
 pub replaced_next :
     (f : NameIx → NameIx) (out l : List ℕ) (i : ℕ) (y : NameIx) →
@@ -73,9 +70,9 @@ replaced_next f out l i y a b e q =
       add-one i,
       p,
       r,
-      map_last nm (take i out) y.0,
-      map_last nm (take i l) (get_or l i 0),
-      map_last f (map nm (take i l)) (nm (get_or l i 0)),
+      map_push nm (take i out) y.0,
+      map_push nm (take i l) (get_or l i 0),
+      map_push f (map nm (take i l)) (nm (get_or l i 0)),
       q,
       ← e,
     )

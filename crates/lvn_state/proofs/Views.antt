@@ -4,7 +4,7 @@ use mathlib.Core.Path.{◌≡◌, refl, sym, ap, ◌∙◌, fun_ext}
 use mathlib.Core.Logic.{◌≢◌}
 use mathlib.Core.Bool.{Bool, true, false}
 use mathlib.Core.List.{List, [], ◌∷◌}
-use mathlib.Core.Option.{none, some}
+use mathlib.Core.Option.{some}
 use native.Mathlib.Omega.{arith}
 use lib.Dec.{ltb}
 use lib.ListN.{length, get_or, set}
@@ -19,40 +19,17 @@ use Rattle.numbering.specs.State.{vn, ValNum-discrete}
 use Rattle.lvn_state.specs.View.{slot, env_of, locs_of}
 
 -- ---- reads
--- inside a list the default does not matter; past its end it is what is read
-pub inside : (l : List ℕ) (i d e : ℕ) → i < length l → get_or l i d ≡ get_or l i e
-inside [] i d e h = absurd (omega (arith, h))
-inside (x ∷ l) zero d e h = refl
-inside (x ∷ l) (suc i) d e h = inside l i d e (omega arith)
-
+-- past its end a list reads as the default
 past : (l : List ℕ) (i d : ℕ) → length l ≤ i → get_or l i d ≡ d
 past [] i d h = refl
 past (x ∷ l) zero d h = absurd (omega arith)
 past (x ∷ l) (suc i) d h = past l i d (omega arith)
 
-pub slot_some : (v : ℕ) → v ≢ 65535 → slot v ≡ some (vn v)
+slot_some : (v : ℕ) → v ≢ 65535 → slot v ≡ some (vn v)
 slot_some v h = rw (ne_eqb v 65535 h)
 
-module _ (l : List ℕ) (x : NameIx) (h : x.0 < length l) where
-  pub env_none : get_or l x.0 0 ≡ 65535 → env_of l x ≡ none
-  unfolding env_of
-  env_none e = ap slot (inside l x.0 65535 0 h ∙ e)
-
-  pub env_some : (v : ℕ) → get_or l x.0 0 ≡ v → v ≢ 65535 → env_of l x ≡ some (vn v)
-  unfolding env_of
-  env_some v e n = ap slot (inside l x.0 65535 0 h ∙ e) ∙ slot_some v n
-
-module _ (l : List ℕ) (x : NameIx) where
-  pub env_past : length l ≤ x.0 → env_of l x ≡ none
-  unfolding env_of
-  env_past h = ap slot (past l x.0 65535 h)
-
 module _ (l : List ℕ) (v : ValNum) where
-  pub locs_in : v.0 < length l → locs_of l v ≡ nm (get_or l v.0 0)
-  unfolding locs_of
-  locs_in h = ap nm (inside l v.0 65535 0 h)
-
-  pub locs_past : length l ≤ v.0 → locs_of l v ≡ nm 65535
+  locs_past : length l ≤ v.0 → locs_of l v ≡ nm 65535
   unfolding locs_of
   locs_past h = ap nm (past l v.0 65535 h)
 

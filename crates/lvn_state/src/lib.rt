@@ -21,11 +21,9 @@ use lvn_values::Values;
 use numbering::{Constant, ValNum, Value};
 use record::NameIx;
 
-// So many names a record may have.
-pub const NAMES: usize = 256;
-
-// What the maps hold for a name that has no number, and for a number that is not given. Memory is fixed, and the maps are filled whole at each
-// block's start: an array of Options is twice as long.
+// What the maps hold for a name that has no number, and for a number that is not given. Maps of Options miss the bar that no row of the benchmark
+// gets slower: they are twice as long and are filled whole at each block's start. Measured as plain Rust, a rewriting of 64 blocks by 256
+// instructions takes 1.06 times the time with them, one of 16 by 16 1.33 times.
 const NONE: u16 = 65535;
 
 // env: the number of each of M names; homes: the home of each of N numbers; values: the value of each number; made: K.
@@ -79,14 +77,14 @@ impl<const M: usize, const N: usize> LvnState<M, N> {
     }
 
     // The number of a name, where it has one.
+    #[tactic(auto, unfolding(crate::specs::View::env_of))]
     pub fn number(&self, x: NameIx) -> Option<ValNum>
         ensures { (numbered_of result ≡ (state_of self.now).env x) × IfSome result (λ v. v.0 < 65535) }
     {
-        let i = usize::from(x.0);
-        if i >= M || self.env[i] == NONE {
-            return None;
+        match self.env.get(usize::from(x.0)) {
+            Some(v) if *v != NONE => Some(ValNum(*v)),
+            _ => None,
         }
-        Some(ValNum(self.env[i]))
     }
 
     // The number of a name that has one.
@@ -98,17 +96,15 @@ impl<const M: usize, const N: usize> LvnState<M, N> {
 
     // The home of a number. One that is not given has 65535, the definitions' nobody: there every number has a home, and an Option would be
     // opened at each argument, whose number is always given.
+    #[tactic(auto, unfolding(crate::specs::View::locs_of))]
     pub fn home(&self, v: ValNum) -> NameIx
         ensures { result ≡ (state_of self.now).locs v }
     {
-        let i = usize::from(v.0);
-        if i >= N {
-            return NameIx(NONE);
-        }
-        NameIx(self.homes[i])
+        NameIx(self.homes.get(usize::from(v.0)).copied().unwrap_or(NONE))
     }
 
     // The constant of a number, where it is known.
+    #[tactic(auto, unfolding(numbering::specs::State::known))]
     pub fn known(&self, v: ValNum) -> Option<Constant>
         ensures { known_of result ≡ known (state_of self.now) v }
     {
@@ -122,8 +118,8 @@ impl<const M: usize, const N: usize> LvnState<M, N> {
         self.values.get_val_num(v)
     }
 
-    // That a name is below M, and that there is room for a number, is asked by each method that puts them: the name is another at each call, and
-    // a state that is full is a state too.
+    // That a name is below M, and that there is room for a number, is asked by each method that puts them: the name is another at each call. A
+    // full state is allowed; only these methods need room.
 
     // The next number: for x, whose home it is, with the value v.
     pub fn give(&mut self, x: NameIx, v: Value)
@@ -137,6 +133,7 @@ impl<const M: usize, const N: usize> LvnState<M, N> {
     }
 
     // x takes the number v.
+    #[tactic(auto, using(crate::proofs::Steps::take_view))]
     pub fn update_env(&mut self, x: NameIx, v: ValNum)
         requires { (x.0 < M) × (v.0 ≢ 65535) }
         ensures { state_of self.new ≡ update_env (state_of self.old) x v }

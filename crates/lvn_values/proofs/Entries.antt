@@ -4,6 +4,7 @@ use mathlib.Core.Path.{◌≡◌, refl, sym, ap, ◌∙◌}
 use mathlib.Core.Bool.{Bool, true, false, cond, ◌&&◌}
 use mathlib.Core.Option.{Option, none, some}
 use native.Mathlib.Omega.{arith}
+use Rattle.std.specs.Cmp.{first_so as and_left, second_so as and_right}
 use lib.Dec.{eqb}
 use borrow.Author.Tests.{eqb-true, eq-eqb}
 use Rattle.arith.proofs.Clash.{clash}
@@ -24,14 +25,6 @@ use Rattle.numbering.specs.View.{val_of}
 use Rattle.lvn_values.specs.Table.{packed, int_tag, bool_tag, constant_tag, constant_bits, head_of, num_of, constant_for, unpacked, exactly, expr_at}
 
 -- ---- both tests of an entry
-pub and_left : (a b : Bool) → (a && b) ≡ true → a ≡ true
-and_left true b e = refl
-and_left false b e = e
-
-pub and_right : (a b : Bool) → (a && b) ≡ true → b ≡ true
-and_right true b e = e
-and_right false b e = clash (cc)
-
 pub stands : (h n : ℕ) (e : Expr ValNum) → expr_at h n ≡ some e → (h ≡ head_of e) × (n ≡ num_of e)
 unfolding expr_at
 stands h n e = go (unpacked (h / 0x1_0000_0000) (vn (h / 0x1_0000 % 0x1_0000)) (vn (h % 0x1_0000)) n)
@@ -125,9 +118,9 @@ module _ (h n : ℕ) (e : Expr ValNum) (here : expr_at h n ≡ some e) where
       by (some g) p = differs g p (Expr-discrete ValNum-discrete g e)
 
 -- ---- what is known of an entry
-pub known_int : (n : ℕ) → known_expr (expr_at (packed int_tag 0 0) n) ≡ some (int n)
+pub known_int : (h n : ℕ) → h ≡ packed int_tag 0 0 → some (int n) ≡ known_expr (expr_at h n)
 unfolding known_expr known_value head_of num_of constant_tag constant_bits
-known_int n = ap known_expr (constant_read (Int n))
+known_int h n e = sym (ap (λ (a : ℕ). known_expr (expr_at a n)) e ∙ ap known_expr (constant_read (Int n)))
 
 known_bool : (b : Bool) → known_expr (expr_at (packed bool_tag 0 0) (cond b 1 0)) ≡ some (bool b)
 unfolding known_expr known_value head_of num_of constant_tag constant_bits

@@ -6,10 +6,11 @@ use mathlib.Core.List.{List}
 use mathlib.Core.Option.{none, some}
 use native.Mathlib.Decide.{ℕ_discrete}
 use native.Mathlib.Omega.{arith}
+use Rattle.std.proofs.lemmas.Bool.{or_parts}
 use lib.Dec.{eqb}
-use lib.ListN.{get_or}
+use lib.ListN.{length, get_or, take}
+use lib.Seq.{length-take-le, get_or-take}
 use borrow.Author.Tests.{eqb-false}
-use Rattle.arith.proofs.Clash.{clash}
 use Rattle.arith.specs.Operation.{Expr}
 use Rattle.numbering.specs.declared.ValNum.{ValNum}
 use Rattle.numbering.specs.State.{vn}
@@ -17,14 +18,6 @@ use Rattle.numbering.specs.Number.{find}
 use Rattle.lvn_values.specs.Table.{expr_at, vals_of, holds}
 use Rattle.lvn_values.proofs.Entries.{other_entry}
 use Rattle.lvn_values.proofs.Search.{vals_in}
-
-or_left : (a b : Bool) → a || b ≡ false → a ≡ false
-or_left true b e = e
-or_left false b e = refl
-
-or_right : (a b : Bool) → a || b ≡ false → b ≡ false
-or_right true b e = clash (cc)
-or_right false b e = e
 
 module _ (l : List ℕ) (x : ℕ) where
   -- ---- the loop: what is left from here, and what was met before
@@ -44,12 +37,19 @@ module _ (l : List ℕ) (x : ℕ) where
   unfolding holds
   not_held zero i e j a b p = omega arith
   not_held (suc n) i e j a b p =
-      by (ℕ_discrete i j) (not_held n (i + 1) (or_right (eqb (get_or l i 0) x) (holds l x (i + 1) n) e) j)
+      by (ℕ_discrete i j) (not_held n (i + 1) (or_parts (eqb (get_or l i 0) x) (holds l x (i + 1) n) e).1 j)
     where
       by : Dec (i ≡ j) → (i + 1 ≤ j → j < i + 1 + n → get_or l j 0 ≡ x → ⊥) → ⊥
       by (yes q) ih =
-          eqb-false (get_or l i 0) x (or_left (eqb (get_or l i 0) x) (holds l x (i + 1) n) e) (ap (λ (m : ℕ). get_or l m 0) q ∙ p)
+          eqb-false (get_or l i 0) x (or_parts (eqb (get_or l i 0) x) (holds l x (i + 1) n) e).0 (ap (λ (m : ℕ). get_or l m 0) q ∙ p)
       by (no q) ih = ih (omega arith) (omega arith) p
+
+-- of a list's first numbers
+not_taken : (l : List ℕ) (x n : ℕ) → n ≤ length l → holds (take n l) x 0 (length (take n l)) ≡ false →
+    (j : ℕ) → j < n → get_or l j 0 ≡ x → ⊥
+not_taken l x n a e j b p =
+    let k : length (take n l) ≡ n = length-take-le n l a in
+    not_held (take n l) x (length (take n l)) 0 e j (omega arith) (omega arith) (get_or-take n l j 0 b ∙ p)
 
 module _ (hs ns : List ℕ) (h k count : ℕ) (e : Expr ValNum) (here : expr_at h k ≡ some e) where
   none_found :
@@ -66,8 +66,10 @@ module _ (hs ns : List ℕ) (h k count : ℕ) (e : Expr ValNum) (here : expr_at 
         other_entry h k e here (get_or hs i 0) (get_or ns i 0) (f i (omega arith) (omega arith)),
       ) rest
 
-  pub no_head : holds hs h 0 count ≡ false → none ≡ find (vals_of hs ns count) e 0 count
-  no_head z = none_found count 0 (omega arith) (λ j a b p. not_held hs h count 0 z j a b p.0)
+  pub no_head :
+      count ≤ length hs → holds (take count hs) h 0 (length (take count hs)) ≡ false → none ≡ find (vals_of hs ns count) e 0 count
+  no_head l z = none_found count 0 (omega arith) (λ j a b p. not_taken hs h count l z j (omega arith) p.0)
 
-  pub no_num : holds ns k 0 count ≡ false → none ≡ find (vals_of hs ns count) e 0 count
-  no_num z = none_found count 0 (omega arith) (λ j a b p. not_held ns k count 0 z j a b p.1)
+  pub no_num :
+      count ≤ length ns → holds (take count ns) k 0 (length (take count ns)) ≡ false → none ≡ find (vals_of hs ns count) e 0 count
+  no_num l z = none_found count 0 (omega arith) (λ j a b p. not_taken ns k count l z j (omega arith) p.1)

@@ -7,6 +7,7 @@ use mathlib.Core.List.{List}
 use mathlib.Core.Option.{Option, none, some}
 use native.Mathlib.Numerals.{add-one}
 use native.Mathlib.Omega.{arith}
+use Rattle.std.specs.Cmp.{first_so as and_left, second_so as and_right}
 use lib.Dec.{eqb, ltb}
 use lib.ListN.{length, get_or, set}
 use lib.Seq.{get_or-set_same, get_or-set_other}
@@ -19,7 +20,7 @@ use Rattle.numbering.specs.declared.ValNum.{ValNum}
 use Rattle.numbering.specs.State.{vn, ValNum-discrete}
 use Rattle.numbering.specs.Number.{same_expr, find}
 use Rattle.lvn_values.specs.Table.{expr_at, vals_of}
-use Rattle.lvn_values.proofs.Entries.{and_left, and_right, same_entry, other_entry}
+use Rattle.lvn_values.proofs.Entries.{same_entry, other_entry}
 
 module _ (hs ns : List ℕ) (count : ℕ) (v : ValNum) where
   pub vals_in : v.0 < count → vals_of hs ns count v ≡ expr_at (get_or hs v.0 0) (get_or ns v.0 0)

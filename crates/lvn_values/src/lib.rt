@@ -25,7 +25,8 @@ const INT_AS_FLOAT: u64 = 16 * 0x1_0000_0000;
 
 const BOOL: u64 = 17 * 0x1_0000_0000;
 
-// What stands in the table for a value.
+// What stands in the table for a value: two words, and no Value, so that the search compares one word with the words of all numbers, several at
+// once (DECISIONS 37).
 #[derive(Clone, Copy, PartialEq, Eq, Debug)]
 pub struct Entry {
     pub head: u64,
@@ -68,27 +69,28 @@ impl Entry {
         match v {
             Value::Unique => Entry { head: 0, num: 0 },
             Value::Constant(c) => Entry::constant(c),
-            Value::One(o, a) => Entry::operation(codes::code1(o), a, ValNum(0)),
-            Value::Two(o, a, b) => Entry::operation(codes::code2(o), a, b),
+            Value::One(o, a) => Entry::operation(u8::from(o), a, ValNum(0)),
+            Value::Two(o, a, b) => Entry::operation(u8::from(o), a, b),
         }
     }
 
     // What is known of the number that an entry stands for.
+    #[tactic(auto, using(crate::proofs::Entries::known_int, crate::proofs::Entries::known_word, crate::proofs::Entries::known_none))]
     pub fn known(self) -> Option<Constant>
         ensures { known_of result ≡ known_expr (expr_at self.head self.num) }
     {
-        if self.head == INT {
-            return Some(Constant::Int(self.num));
+        match self.head {
+            INT => Some(Constant::Int(self.num)),
+            BOOL if self.num <= 1 => Some(Constant::Bool(self.num == 1)),
+            _ => None,
         }
-        if self.head == BOOL && self.num <= 1 {
-            return Some(Constant::Bool(self.num == 1));
-        }
-        None
     }
 }
 
 // The entries of the first count numbers, of which there can be N. Two arrays, since holds goes over the heads alone, or over the constants
-// alone. One array of entries was measured and is as quick, but holds would need a closure that says which part of an entry to compare.
+// alone. One array of entries was measured and is as quick, but over it holds would stand twice, for the heads and for the constants, or want a
+// closure that picks the part.
+// No PartialEq: what stands from count on is no part of the table.
 #[derive(Drop)]
 pub struct Values<const N: usize> {
     heads: [u64; N],
@@ -97,14 +99,14 @@ pub struct Values<const N: usize> {
     ghost few: { count ≤ N },
 }
 
-// Whether x is one of the first count numbers. The loop has no other end, so that several are compared at once: `contains`, which ends at the
-// first, took a tenth longer over numbers that do not have it.
-pub fn holds(l: &[u64], count: u16, x: u64) -> bool
-    requires { count ≤ length l.now }
-    ensures { result ≡ holds l.now x 0 count }
+// Whether x is one of these numbers. The loop has no other end, so that several are compared at once: `contains`, which ends at the first, took
+// a tenth longer over numbers that do not have it.
+#[tactic(auto, using(crate::proofs::Held::held_next, crate::proofs::Held::held_last))]
+pub fn holds(l: &[u64], x: u64) -> bool
+    ensures { result ≡ holds l.now x 0 (length l.now) }
 {
     let mut hit = false;
-    for y in &l[..usize::from(count)] {
+    for y in l {
         hit |= *y == x;
     }
     hit
@@ -186,18 +188,18 @@ impl<const N: usize> Values<N> {
     }
 
     // The first of the numbers that has this entry; none, where its head, or its constant, stands nowhere.
+    #[tactic(auto, using(crate::proofs::Held::no_head, crate::proofs::Held::no_num))]
     pub fn look_up(&self, e: Entry) -> Option<ValNum>
         ensures { (x : Expr ValNum) → expr_at e.head e.num ≡ some x →
             numbered_of result ≡ find (vals_of self.now.heads self.now.nums self.now.count) x 0 self.now.count }
     {
-        if e.num == 0 {
-            if !holds(&self.heads, self.count, e.head) {
-                return None;
-            }
-        } else if !holds(&self.nums, self.count, e.num) {
-            return None;
-        }
-        self.find(e)
+        let n = usize::from(self.count);
+        let there = if e.num == 0 {
+            holds(&self.heads[..n], e.head)
+        } else {
+            holds(&self.nums[..n], e.num)
+        };
+        if there { self.find(e) } else { None }
     }
 
     // The number of a value: an id's is its operand's, and one that is new each time has none.

@@ -1,5 +1,5 @@
 // Name text: the part of the input or of its rewriting that is the text of a name. Functions take input, rewriting and index as the definition
-// does: a struct of the three would be made by the entry and taken apart by each.
+// does, and as C lends them.
 #![tactic(auto)]
 
 ghost use Rattle.std.specs.Prelude.{◌≡◌, Bool, true, false, ℕ, ◌+◌, ◌<◌, ◌≤◌};
@@ -26,7 +26,7 @@ pub fn name_within(s: &[u8], p: usize) -> Next
 {
     let (_, q) = read_fields::field_at::<1>(s, p)?;
     let (n, t) = read_fields::field_at::<1>(s, q)?;
-    // as: a number that is known to fit, or u64 and usize, which have no From; try_from would hand out an error that cannot be.
+    // as: the number fits, or u64 and usize have no From; try_from would give an error that cannot happen.
     read_fields::skip_at(s, t, n as usize)
 }
 
@@ -35,7 +35,7 @@ pub fn names_within(s: &[u8]) -> Next
     ensures { (b : Bool) → result ≡ verdict (parts_of b s.now) }
 {
     let mut p = 8;
-    for _ in 0..read_fields::be::<2>(s, 6) {
+    for _ in 0..read_layout::names_count(s) {
         p = name_within(s, p)?;
     }
     Ok(p)
@@ -52,7 +52,7 @@ pub fn text_in(s: &[u8], rewriting: bool, index: usize) -> Place
     Place {
         rewriting,
         from: p + 1 + 1,
-        count: read_fields::byte_or(s, p + 1) as usize,
+        count: usize::from(read_fields::u8_at(s, p + 1)),
     }
 }
 
@@ -70,8 +70,8 @@ pub fn chosen(input: &[u8], rewriting: &[u8], index: usize) -> Result<Place, Nam
         (found result ≡ from_parts index (parts_of false input.now) (parts_of true rewriting.now))
         × IsWithin result input.now rewriting.now }
 {
-    let n = read_fields::be::<2>(input, 6) as usize;
-    let m = read_fields::be::<2>(rewriting, 6) as usize;
+    let n = usize::from(read_layout::names_count(input));
+    let m = usize::from(read_layout::names_count(rewriting));
     if m < n {
         return Err(NameError::Mismatch);
     }

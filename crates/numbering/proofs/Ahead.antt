@@ -2,7 +2,7 @@
 -- figures, which are refused, and what is then left of the places.
 use Prim.Native.Nat.{ℕ, zero, suc, ◌≤◌}
 use mathlib.Core.Path.{◌≡◌, refl, sym, ap, ◌∙◌, subst}
-use mathlib.Core.Logic.{◌≢◌, ◌↔◌, ◌⊎◌, inl, inr}
+use mathlib.Core.Logic.{◌≢◌, ◌↔◌, ◌⊎◌, inl, inr, ⊎_elim}
 use mathlib.Core.Bool.{Bool, true, false, cond}
 use mathlib.Core.List.{List, [], ◌∷◌, ◌++◌, map}
 use native.Mathlib.Omega.{arith}
@@ -188,39 +188,29 @@ either_way s each out n k f = go (ltb (length out) n) refl
     go true l = inr (f.short out (ltb-true (length out) n l))
     go false l = inl (f.written out (ltb-false (length out) n l))
 
-pub written_was_foretold :
-    (s each out : List ℕ) (n k : ℕ) → rewrite s out ≡ Ok (totals n k) → (figures s each ≡ Ok (totals n k)) ⊎ (figures s each ≡ Err TooFew)
-written_was_foretold s each out n k e = go (figures_end s each)
+-- P: what follows of what was foretold and of the output
+foretold_for :
+    (P : Type 0) (s each out : List ℕ) → ((f : Fault) → rewrite s out ≢ Err (rewrites.Refused f)) →
+    ((m j : ℕ) → figures s each ≡ Ok (totals m j) → (rewrite s out ≡ Ok (totals m j)) ⊎ (rewrite s out ≡ Err (Room m)) → P) →
+    P ⊎ (figures s each ≡ Err TooFew)
+foretold_for P s each out h same = go (figures_end s each)
   where
-    same :
-        (m j : ℕ) → figures s each ≡ Ok (totals m j) → (rewrite s out ≡ Ok (totals m j)) ⊎ (rewrite s out ≡ Err (Room m)) →
-        figures s each ≡ Ok (totals n k)
-    same m j a (inl w) = cc
-    same m j a (inr w) = clash (cc)
-
-    go : FiguresEnd s each → (figures s each ≡ Ok (totals n k)) ⊎ (figures s each ≡ Err TooFew)
-    go (faulty w a l) =
-        let r : rewrite s out ≡ Err (rewrites.Refused w.fault) = ((three_ways s out).faulty w).0 in
-        clash (cc)
+    go : FiguresEnd s each → P ⊎ (figures s each ≡ Err TooFew)
+    go (faulty w a l) = absurd (h w.fault ((three_ways s out).faulty w).0)
     go (few w a l) = inr a
     go (enough w a l) = inl (same _ _ a (either_way s each out _ _ (figures_foretell s each _ _ a)))
 
+pub written_was_foretold :
+    (s each out : List ℕ) (n k : ℕ) → rewrite s out ≡ Ok (totals n k) → (figures s each ≡ Ok (totals n k)) ⊎ (figures s each ≡ Err TooFew)
+written_was_foretold s each out n k e =
+    foretold_for (figures s each ≡ Ok (totals n k)) s each out (λ f r. clash (cc))
+    (λ m j a o. ⊎_elim (λ w. cc) (λ w. clash (cc)) o)
+
 pub room_was_foretold :
     (s each out : List ℕ) (n : ℕ) → rewrite s out ≡ Err (Room n) → ((k : ℕ) × (figures s each ≡ Ok (totals n k))) ⊎ (figures s each ≡ Err TooFew)
-room_was_foretold s each out n e = go (figures_end s each)
-  where
-    same :
-        (m j : ℕ) → figures s each ≡ Ok (totals m j) → (rewrite s out ≡ Ok (totals m j)) ⊎ (rewrite s out ≡ Err (Room m)) →
-        figures s each ≡ Ok (totals n j)
-    same m j a (inl w) = clash (cc)
-    same m j a (inr w) = cc
-
-    go : FiguresEnd s each → ((k : ℕ) × (figures s each ≡ Ok (totals n k))) ⊎ (figures s each ≡ Err TooFew)
-    go (faulty w a l) =
-        let r : rewrite s out ≡ Err (rewrites.Refused w.fault) = ((three_ways s out).faulty w).0 in
-        clash (cc)
-    go (few w a l) = inr a
-    go (enough w a l) = inl (_, same _ _ a (either_way s each out _ _ (figures_foretell s each _ _ a)))
+room_was_foretold s each out n e =
+    foretold_for ((k : ℕ) × (figures s each ≡ Ok (totals n k))) s each out (λ f r. clash (cc))
+    (λ m j a o. (j, ⊎_elim (λ w. clash (cc)) (λ w. cc) o))
 
 -- ---- refusals
 -- check accepts what has a number of blocks

@@ -3,12 +3,14 @@
 use Prim.Native.Nat.{ℕ, ◌<◌, ◌≤◌}
 use mathlib.Core.Path.{◌≡◌, refl, sym, ap, ◌∙◌, subst}
 use mathlib.Core.List.{List, [], ◌∷◌}
-use mathlib.Core.Bool.{Bool, true, false, cond, not, ◌||◌}
+use mathlib.Core.Bool.{Bool, true, false, not, ◌||◌}
 use native.Mathlib.Omega.{arith}
 use lib.ListN.{length, get_or}
 use lib.Dec.{eqb}
-use borrow.Author.Tests.{not-true}
 use Rattle.arith.proofs.Clash.{clash}
+use Rattle.std.specs.Bool.{beq}
+use Rattle.std.specs.Cmp.{booleans_Decides}
+use Rattle.std.proofs.lemmas.List.{nil_from_length}
 use Rattle.arith.specs.Code.{code1, code2, with_code, one_of, two_of}
 use Rattle.record.specs.declared.NameIx.{NameIx}
 use Rattle.record.specs.declared.Shape.{Shape}
@@ -40,10 +42,6 @@ args_below N sh xs true h = indexes_below N xs h.each
 args_below N sh xs false h = subst (λ (ys : List NameIx). Each (λ left x. x.0 < N) ys) (sym h) tt
 
 -- ---- arguments by their count
-pub none_there : (xs : List NameIx) → length xs ≡ 0 → xs ≡ []
-none_there [] e = refl
-none_there (x ∷ xs) e = absurd (omega arith)
-
 one_there : (xs : List NameIx) → length xs ≡ 1 → get_or xs 0 (nm 0) ∷ [] ≡ xs
 one_there [] e = absurd (omega arith)
 one_there (x ∷ []) e = refl
@@ -75,26 +73,22 @@ gives_value (branch a b c) = false
 
 -- the code has a dest where the form of i with it gives a value
 abbrev agrees : (NameIx → ℕ) → Instr → ℕ → Bool
-agrees t i c = let v = gives_value (form t (recode i c)) in cond (shape_of c).dest v (not v)
+agrees t i c = beq (shape_of c).dest (gives_value (form t (recode i c)))
 
 -- every code is tried
 codes_agree : (t : NameIx → ℕ) (i : Instr) → all_below 72 (λ c. not (shape_of c).known || agrees t i c) ≡ true
 unfolding shape_of form gives_value one_of two_of with_code code1 code2
 codes_agree t i = refl
 
-agrees_eq : (d v : Bool) → cond d v (not v) ≡ true → d ≡ v
-agrees_eq true v e = sym e
-agrees_eq false v e = sym (not-true v e)
-
 -- ---- an instruction that passes its tests
 module _ (N B left : ℕ) (t : NameIx → ℕ) (i : Instr) (h : InstrOk N B left i) where
   pub form_dest : (shape_of i.code).dest ≡ gives_value (form t i)
   form_dest =
-      agrees_eq (shape_of i.code).dest (gives_value (form t i))
+      (booleans_Decides (shape_of i.code).dest (gives_value (form t i))).0
       (at_known (agrees t i) (codes_agree t i) i.code (code_known (eqb left 0) i.code h.code))
 
   -- what stands behind a code of the shape sh
-  operands_of : (sh : Shape) → shape_of i.code ≡ sh → OperandsOk N B sh i
+  pub operands_of : (sh : Shape) → shape_of i.code ≡ sh → OperandsOk N B sh i
   operands_of sh e = subst (λ (z : Shape). OperandsOk N B z i) e h.rest
 
   reads_by : {f : Form} → FormOf t i f → reads f ≡ i.args
@@ -107,14 +101,14 @@ module _ (N B left : ℕ) (t : NameIx → ℕ) (i : Instr) (h : InstrOk N B left
   reads_by of_new = refl
   reads_by (of_jump e) =
       let sh = terminator 0 0 1 in
-      sym (none_there i.args (exactly sh 0 i.args refl refl (operands_of sh (ap shape_of e)).args.count))
+      sym (nil_from_length i.args (exactly sh 0 i.args refl refl (operands_of sh (ap shape_of e)).args.count))
   reads_by (of_branch e) =
       let sh = terminator 1 1 2 in
       one_there i.args (exactly sh 1 i.args refl refl (operands_of sh (ap shape_of e)).args.count)
   reads_by (of_return e) = refl
   reads_by (of_nop e) =
       let sh = effect_shape 0 in
-      sym (none_there i.args (exactly sh 0 i.args refl refl (operands_of sh (ap shape_of e)).args.count))
+      sym (nil_from_length i.args (exactly sh 0 i.args refl refl (operands_of sh (ap shape_of e)).args.count))
   reads_by of_effect = refl
 
   -- it reads its arguments

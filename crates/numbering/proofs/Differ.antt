@@ -1,11 +1,12 @@
 -- The texts of a name table differ, in an accepted record and in a rewriting.
-use Prim.Native.Nat.{ℕ, zero, suc, ◌+◌, ◌<◌}
-use mathlib.Core.Path.{◌≡◌, refl, sym, ap, ◌∙◌}
+use Prim.Native.Nat.{ℕ, zero, suc, ◌<◌}
+use mathlib.Core.Path.{◌≡◌, sym, ap, ◌∙◌}
 use mathlib.Core.Logic.{◌≢◌}
-use mathlib.Core.Bool.{Bool, true, false, ◌||◌, true≢false}
+use mathlib.Core.Bool.{false, true≢false}
 use mathlib.Core.List.{List, [], ◌∷◌, ◌++◌, map}
 use native.Mathlib.Omega.{arith}
 use lib.ListN.{length, get_or}
+use Rattle.std.proofs.lemmas.Bool.{or_parts}
 use Rattle.record.specs.declared.Limits.{Limits}
 use Rattle.record.specs.Record.{Name}
 use Rattle.record.specs.Text.{same_bytes, among}
@@ -17,18 +18,14 @@ use Rattle.numbering.proofs.Names.{text_apart}
 abbrev Apart : List ℕ → List (List ℕ) → Type 0
 Apart t us = (k : ℕ) → k < length us → get_or us k [] ≢ t
 
-not_either : (a b : Bool) → (a || b) ≡ false → (a ≡ false) × (b ≡ false)
-not_either true b e = absurd (true≢false e)
-not_either false b e = (refl, e)
-
 apart : (t : List ℕ) (us : List (List ℕ)) → among t us ≡ false → Apart t us
 unfolding among
 apart t [] e k l p = absurd (omega arith)
 apart t (u ∷ us) e zero l p =
-    let (x, y) = not_either (same_bytes t u) (among t us) e in
+    let (x, y) = or_parts (same_bytes t u) (among t us) e in
     true≢false (sym (same_bytes_refl t) ∙ ap (same_bytes t) (sym p) ∙ x)
 apart t (u ∷ us) e (suc k) l p =
-    let (x, y) = not_either (same_bytes t u) (among t us) e in
+    let (x, y) = or_parts (same_bytes t u) (among t us) e in
     apart t us y k (omega arith) p
 
 -- what stood before and one more

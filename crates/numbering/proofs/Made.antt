@@ -5,9 +5,11 @@ use mathlib.Core.Path.{◌≡◌, refl, sym, ap, ◌∙◌, subst}
 use mathlib.Core.Bool.{Bool, true, false, cond}
 use mathlib.Core.List.{List, [], ◌∷◌, ◌++◌, map, map-append}
 use native.Mathlib.Nat.{zero-add, add-zero, suc-add, add-suc, add_assoc}
+use native.Mathlib.Numerals.{one-add}
 use native.Mathlib.Omega.{arith}
 use lib.ListN.{length, get_or, length-append, get_or-append}
 use lib.Seq.{get_or-append-add}
+use Rattle.std.proofs.lemmas.List.{get_or-map}
 use Rattle.record.specs.declared.NameIx.{NameIx}
 use Rattle.record.specs.Record.{nm, Instr, Block, Function, names_of, type_in, arg}
 use Rattle.numbering.specs.State.{start}
@@ -144,10 +146,7 @@ saves_in_dests : {N k : ℕ} {is : List Instr} → Makes N k is → map (λ i. i
 unfolding count_saves
 saves_in_dests no_more = refl
 saves_in_dests {N} (a_save {k = k} {i = i} {is = is} s d a m) =
-    rw (s, d, saves_in_dests m, add-suc N k) (ap (names_from (N + k)) (sym (one_add (count_saves N is))))
-  where
-    one_add : (n : ℕ) → 1 + n ≡ suc n
-    one_add n = omega arith
+    rw (s, d, saves_in_dests m, add-suc N k) (ap (names_from (N + k)) (sym (one-add (count_saves N is))))
 saves_in_dests {N} (another {is = is} s m) = rw (s, zero-add (count_saves N is)) (saves_in_dests m)
 
 -- the j-th of them makes the name N + j
@@ -191,11 +190,6 @@ made_below N k (b ∷ bs) m j l =
     (made_below N (k + count_saves N b.body) bs m.1)
 
 -- ---- types of the names of a rewriting
-get_or_map : {A B : Type 0} (g : A → B) (xs : List A) (j : ℕ) (a : A) (b : B) → j < length xs → get_or (map g xs) j b ≡ g (get_or xs j a)
-get_or_map g [] j a b l = absurd (omega arith)
-get_or_map g (x ∷ xs) zero a b l = refl
-get_or_map g (x ∷ xs) (suc j) a b l = get_or_map g xs j a b (omega arith)
-
 -- an original name keeps its type
 pub lvn_type_original : (f : Function) (x : NameIx) → x.0 < names_of f → type_in (lvn f).types x ≡ type_in f.types x
 unfolding type_in lvn
@@ -207,7 +201,7 @@ pub lvn_type_made :
     j < length (made_from (names_of f) (lvn f).blocks) →
     type_in (lvn f).types (nm (names_of f + j)) ≡ type_in f.types (get_or (made_from (names_of f) (lvn f).blocks) j (nm 0))
 unfolding type_in lvn
-lvn_type_made f j l = get_or-append-add f.types _ j 0 ∙ get_or_map (type_in f.types) (made_from (names_of f) (lvn f).blocks) j (nm 0) 0 l
+lvn_type_made f j l = get_or-append-add f.types _ j 0 ∙ get_or-map (type_in f.types) (made_from (names_of f) (lvn f).blocks) j (nm 0) 0 l
 
 -- the names n, n + 1, .. have the types of these
 abbrev pub TypedFrom : (NameIx → ℕ) → ℕ → List NameIx → Type 0

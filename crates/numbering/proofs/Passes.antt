@@ -4,6 +4,7 @@ use mathlib.Core.Path.{◌≡◌, refl, sym, ap, ◌∙◌, subst}
 use mathlib.Core.Bool.{Bool, true, false, not, ◌||◌}
 use mathlib.Core.List.{List, [], ◌∷◌, ◌++◌, map}
 use native.Mathlib.Omega.{arith}
+use Rattle.std.proofs.lemmas.List.{nil_from_length}
 use lib.ListN.{length, length-append, length-map}
 use lib.Dec.{eqb}
 use borrow.Author.Tests.{eqb-true, eq-eqb}
@@ -25,7 +26,7 @@ use Rattle.record.proofs.Tests.{below_lt, lt_below}
 use Rattle.record.proofs.Form.{one_shape, two_shape}
 use Rattle.numbering.specs.State.{State, gen_new_vals, home_of}
 use Rattle.numbering.specs.Number.{reads, numbered, literal_for, make_const_instr, make_val_instr, rewrite_instr, instr_lvn, block_lvn}
-use Rattle.numbering.proofs.Codes.{reads_args, reads_below, instr_original, dest_below, none_there, body_originals}
+use Rattle.numbering.proofs.Codes.{reads_args, reads_below, instr_original, dest_below, body_originals}
 use Rattle.numbering.proofs.Saves.{Saves, no_saves, one_save, Emits, instr_emits, save_of, gen_new_vals_temps, block_temps}
 use Rattle.numbering.proofs.Simplified.{Closed}
 use Rattle.numbering.proofs.Given.{Seen, gen_seen}
@@ -158,7 +159,7 @@ args_replaced :
     There b (ArgsOk N sh) [] xs →
     There b (ArgsOk M sh) [] ys
 args_replaced N M sh xs ys true e h p = record { count = rw e p.count; each = h }
-args_replaced N M sh xs ys false e h p = none_there ys (e ∙ ap length p)
+args_replaced N M sh xs ys false e h p = nil_from_length ys (e ∙ ap length p)
 
 homes_ok :
     (N M : ℕ) (s : State) (xs : List NameIx) →

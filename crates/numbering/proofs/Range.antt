@@ -4,6 +4,7 @@ use mathlib.Core.Path.{◌≡◌}
 use mathlib.Core.Bool.{Bool, true, false, cond, not}
 use mathlib.Core.List.{List, [], ◌∷◌, ◌++◌, map}
 use native.Mathlib.Omega.{arith}
+use Rattle.record.proofs.Written.{append_bytes}
 use lib.ListN.{length, get_or, length-map}
 use lib.Dec.{eqb}
 use Rattle.arith.specs.Value.{tfloat, Val, int, literal, bool}
@@ -120,10 +121,6 @@ blocks_ranged w B f (b ∷ bs) k a h g =
     )
 
 -- ---- names
-bytes_append : (s t : List ℕ) → Bytes s → Bytes t → Bytes (s ++ t)
-bytes_append [] t h k = k
-bytes_append (b ∷ s) t h k = (h.0, bytes_append s t h.1 k)
-
 digits_bytes : (ds : List ℕ) → Digits ds → Bytes ds
 digits_bytes [] h = tt
 digits_bytes (b ∷ ds) h =
@@ -132,7 +129,7 @@ digits_bytes (b ∷ ds) h =
 made_bytes : (t : List ℕ) (k : ℕ) → Bytes t → Bytes (made_text t k)
 unfolding made_text
 made_bytes t k h =
-    (omega arith, bytes_append t _ h (omega arith, (omega arith, (omega arith, (omega arith, digits_bytes (digits k) (digits_are k).each)))))
+    (omega arith, append_bytes t _ h (omega arith, (omega arith, (omega arith, (omega arith, digits_bytes (digits k) (digits_are k).each)))))
 
 -- the type and the text of the name with index n
 ranged_at :

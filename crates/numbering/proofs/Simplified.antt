@@ -73,6 +73,24 @@ pub known_ok : (P : Val → Type 0) (s : State) (v : ValNum) → ValueOk P (s.va
 unfolding known
 known_ok P s v h = known_expr_ok P (s.vals v) h
 
+-- ---- an expression that is there has Q
+module _ (Q : Expr ValNum → Type 0) where
+  abbrev pub Found : Option (Expr ValNum) → Type 0
+  Found none = Unit {0}
+  Found (some e) = Q e
+
+  pub get_or_ok : (m : Option (Expr ValNum)) (e : Expr ValNum) → Found m → Q e → Q (get_or m e)
+  get_or_ok none e p q = q
+  get_or_ok (some x) e p q = p
+
+  pub first_ok : (m k : Option (Expr ValNum)) → Found m → Found k → Found (first m k)
+  first_ok none k p q = q
+  first_ok (some e) k p q = p
+
+  pub gives_ok : (b : Bool) (e : Expr ValNum) (m : Option (Expr ValNum)) → Q e → Found m → Found (gives b e m)
+  gives_ok true e m p q = p
+  gives_ok false e m p q = q
+
 -- ---- what simplify gives has a property of value expressions, Q, where each of its outcomes has it
 module _ (Q : Expr ValNum → Type 0) (closed : Closed (λ v. Q (constant v))) where
   -- ---- results of operations
@@ -120,34 +138,18 @@ module _ (Q : Expr ValNum → Type 0) (closed : Closed (λ v. Q (constant v))) w
   apply2_ok PtrAdd x y = with_one_has ResultOk (as_int y) (shift x) tt (λ k p. shift_ok x k)
 
   -- ---- value expressions
-  abbrev Found : Option (Expr ValNum) → Type 0
-  Found none = Unit {0}
-  Found (some e) = Q e
-
-  get_or_ok : (m : Option (Expr ValNum)) (e : Expr ValNum) → Found m → Q e → Q (get_or m e)
-  get_or_ok none e p q = q
-  get_or_ok (some x) e p q = p
-
-  first_ok : (m k : Option (Expr ValNum)) → Found m → Found k → Found (first m k)
-  first_ok none k p q = q
-  first_ok (some e) k p q = p
-
-  gives_ok : (b : Bool) (e : Expr ValNum) (m : Option (Expr ValNum)) → Q e → Found m → Found (gives b e m)
-  gives_ok true e m p q = p
-  gives_ok false e m p q = q
-
-  folded_ok : (r : Result) → ResultOk r → Found (folded r)
+  folded_ok : (r : Result) → ResultOk r → Found Q (folded r)
   unfolding folded
   folded_ok (ok v) h = h
   folded_ok (stops c) h = tt
   folded_ok unset h = tt
 
-  fold1_ok : (o : One) (x : Option Val) → OptionOk (λ v. Q (constant v)) x → Found (fold1 o x)
+  fold1_ok : (o : One) (x : Option Val) → OptionOk (λ v. Q (constant v)) x → Found Q (fold1 o x)
   unfolding fold1
   fold1_ok o none h = tt
   fold1_ok o (some x) h = folded_ok (apply1 o x) (apply1_ok o x h)
 
-  fold2_ok : (o : Two) (x y : Option Val) → Found (fold2 o x y)
+  fold2_ok : (o : Two) (x y : Option Val) → Found Q (fold2 o x y)
   unfolding fold2
   fold2_ok o none y = tt
   fold2_ok o (some x) none = tt
@@ -162,31 +164,31 @@ module _ (Q : Expr ValNum → Type 0) (closed : Closed (λ v. Q (constant v))) w
     pub in_order : Q (ordered o a b)
 
   module _ (x y : Option Val) (a b : ValNum) where
-    absorbs_ok : (z neutral : Bool) → Q (one Id a) → Q (one Id b) → Found (absorbs z neutral x y a b)
+    absorbs_ok : (z neutral : Bool) → Q (one Id a) → Q (one Id b) → Found Q (absorbs z neutral x y a b)
     absorbs_ok z neutral p q =
-        gives_ok (is_bool z x) (constant (bool z)) _ (closed.bools z)
-        (gives_ok (is_bool z y) (constant (bool z)) _ (closed.bools z)
-        (gives_ok (is_bool neutral x) (id_of b) _ q (gives_ok (is_bool neutral y) (id_of a) none p tt)))
+        gives_ok Q (is_bool z x) (constant (bool z)) _ (closed.bools z)
+        (gives_ok Q (is_bool z y) (constant (bool z)) _ (closed.bools z)
+        (gives_ok Q (is_bool neutral x) (id_of b) _ q (gives_ok Q (is_bool neutral y) (id_of a) none p tt)))
 
-    identity_ok : (o : Two) → Outcomes o a b → Found (identity o x y a b)
+    identity_ok : (o : Two) → Outcomes o a b → Found Q (identity o x y a b)
     unfolding identity
-    identity_ok Add h = gives_ok (is_int 0 x) (id_of b) _ h.right (gives_ok (is_int 0 y) (id_of a) none h.left tt)
+    identity_ok Add h = gives_ok Q (is_int 0 x) (id_of b) _ h.right (gives_ok Q (is_int 0 y) (id_of a) none h.left tt)
     identity_ok Sub h = tt
     identity_ok Mul h =
-        gives_ok (is_int 0 x) (constant (int 0)) _ (closed.ints 0 (omega arith))
-        (gives_ok (is_int 0 y) (constant (int 0)) _ (closed.ints 0 (omega arith))
-        (gives_ok (is_int 1 x) (id_of b) _ h.right
-        (gives_ok (is_int 1 y) (id_of a) _ h.left
-        (gives_ok (is_int 2 x) (two Add b b) _ h.right_twice (gives_ok (is_int 2 y) (two Add a a) none h.left_twice tt)))))
+        gives_ok Q (is_int 0 x) (constant (int 0)) _ (closed.ints 0 (omega arith))
+        (gives_ok Q (is_int 0 y) (constant (int 0)) _ (closed.ints 0 (omega arith))
+        (gives_ok Q (is_int 1 x) (id_of b) _ h.right
+        (gives_ok Q (is_int 1 y) (id_of a) _ h.left
+        (gives_ok Q (is_int 2 x) (two Add b b) _ h.right_twice (gives_ok Q (is_int 2 y) (two Add a a) none h.left_twice tt)))))
     identity_ok Div h = tt
-    identity_ok Eq h = gives_ok (eqb a.0 b.0) (constant (bool true)) none (closed.bools true) tt
+    identity_ok Eq h = gives_ok Q (eqb a.0 b.0) (constant (bool true)) none (closed.bools true) tt
     identity_ok Lt h = tt
     identity_ok Gt h = tt
     identity_ok Le h = tt
     identity_ok Ge h = tt
     identity_ok And h = absorbs_ok false true h.left h.right
     identity_ok Or h = absorbs_ok true false h.left h.right
-    identity_ok PtrAdd h = gives_ok (is_int 0 y) (id_of a) none h.left tt
+    identity_ok PtrAdd h = gives_ok Q (is_int 0 y) (id_of a) none h.left tt
 
   abbrev pub OutcomesOf : Expr ValNum → Type 0
   OutcomesOf (constant v) = Q (constant v)
@@ -197,10 +199,10 @@ module _ (Q : Expr ValNum → Type 0) (closed : Closed (λ v. Q (constant v))) w
       (f : ValNum → Option Val) → ((v : ValNum) → OptionOk (λ u. Q (constant u)) (f v)) → (e : Expr ValNum) → OutcomesOf e → Q (simplify f e)
   unfolding simplify simplify1 simplify2
   simplified_ok f h (constant v) k = k
-  simplified_ok f h (one o a) k = get_or_ok (fold1 o (f a)) (one o a) (fold1_ok o (f a) (h a)) k
+  simplified_ok f h (one o a) k = get_or_ok Q (fold1 o (f a)) (one o a) (fold1_ok o (f a) (h a)) k
   simplified_ok f h (two o a b) k =
-      get_or_ok (first (fold2 o (f a) (f b)) (identity o (f a) (f b) a b)) (ordered o a b)
-      (first_ok (fold2 o (f a) (f b)) (identity o (f a) (f b) a b) (fold2_ok o (f a) (f b)) (identity_ok (f a) (f b) a b o k))
+      get_or_ok Q (first (fold2 o (f a) (f b)) (identity o (f a) (f b) a b)) (ordered o a b)
+      (first_ok Q (fold2 o (f a) (f b)) (identity o (f a) (f b) a b) (fold2_ok o (f a) (f b)) (identity_ok (f a) (f b) a b o k))
       k.in_order
 
 -- ---- operands that are given and constants that have P

@@ -2,7 +2,7 @@
 use Prim.Native.Nat.{ℕ, zero, suc, ◌+◌, ◌-◌, ◌<◌, ◌≤◌}
 use mathlib.Core.Path.{◌≡◌, refl, sym, ap, ◌∙◌}
 use mathlib.Core.List.{List, [], ◌∷◌, ◌++◌, append_assoc}
-use mathlib.Core.Bool.{Bool, true, false, ◌||◌}
+use mathlib.Core.Bool.{true, false, ◌||◌}
 use native.Mathlib.Omega.{arith}
 use native.Mathlib.Nat.{add-suc, add-zero}
 use lib.ListN.{length, get_or, drop, length-append}
@@ -10,16 +10,13 @@ use lib.Seq.{get_or-append-add, drop-append-add}
 use lib.Dec.{ltb, leb, eqb}
 use borrow.Author.Tests.{eq-eqb, lt-ltb, le-leb}
 use Rattle.arith.proofs.Clash.{clash}
+use Rattle.std.proofs.lemmas.Bool.{false_from_ne_true, or_right, or_parts, or_from}
 use Rattle.record.specs.Text.{digit, letter, all_text, well_formed, undigited, ends_lvn, reserved, same_bytes, among}
 use Rattle.record.specs.Good.{Each}
 use Rattle.record.proofs.Tests.{and_left, and_right, and_both, same_bytes_eq}
 use Rattle.numbering.specs.Decimal.{Digits}
 use Rattle.numbering.specs.Made.{digits, made_text}
 use Rattle.numbering.proofs.Digits.{digits_are, digits_few, digits_injective}
-
-or_right : (a b : Bool) → b ≡ true → (a || b) ≡ true
-or_right true b e = refl
-or_right false b e = e
 
 -- ---- the bytes of texts
 pub all_text_append : (s t : List ℕ) → all_text s ≡ true → all_text t ≡ true → all_text (s ++ t) ≡ true
@@ -162,22 +159,16 @@ same_bytes_refl [] = refl
 same_bytes_refl (x ∷ s) = and_both (eqb x x) _ (eq-eqb x x refl) (same_bytes_refl s)
 
 -- ---- texts among others
-apart : (b : Bool) → (b ≡ true → ⊥) → b ≡ false
-apart true h = absurd (h refl)
-apart false h = refl
-
 pub among_apart : (t : List ℕ) (us : List (List ℕ)) → Each (λ left u. t ≡ u → ⊥) us → among t us ≡ false
 unfolding among
 among_apart t [] h = refl
 among_apart t (u ∷ us) h =
-    let p : same_bytes t u ≡ false = apart (same_bytes t u) (λ e. h.0 (same_bytes_eq t u e)) in
+    let p : same_bytes t u ≡ false = false_from_ne_true (same_bytes t u) (λ e. h.0 (same_bytes_eq t u e)) in
     rw (p, among_apart t us h.1)
-
-among_more : (a b c : Bool) → (a || b) ≡ false → (b ≡ false → c ≡ false) → (a || c) ≡ false
-among_more true b c p f = p
-among_more false b c p f = f p
 
 pub among_append : (t : List ℕ) (us vs : List (List ℕ)) → among t us ≡ false → among t vs ≡ false → among t (us ++ vs) ≡ false
 unfolding among
 among_append t [] vs p q = q
-among_append t (u ∷ us) vs p q = among_more (same_bytes t u) (among t us) (among t (us ++ vs)) p (λ r. among_append t us vs r q)
+among_append t (u ∷ us) vs p q =
+    let (x, y) = or_parts (same_bytes t u) (among t us) p in
+    or_from (same_bytes t u) (among t (us ++ vs)) x (among_append t us vs y q)

@@ -2,6 +2,7 @@
 #![tactic(auto)]
 
 ghost use Rattle.std.specs.Prelude.{◌≡◌, [], ◌∷◌, Err};
+ghost use Rattle.record.specs.Answer.{Returned};
 ghost use Rattle.numbering.specs.declared.RewriteError.TheVariants.{Refused as rewrite_refused};
 ghost use Rattle.numbering.specs.declared.FiguresError.TheVariants.{Refused as figures_refused};
 ghost use Rattle.numbering.specs.declared.NameError.TheVariants.{Refused as name_refused};
@@ -40,6 +41,20 @@ pub struct Totals {
     pub saves: usize,
 }
 
+// Why an entry does nothing, in numbers. A run's refusal is no such: 14 goes with two values.
+pub trait Refuses: Copy {
+    // The answer: the number of the refusal, and the value that goes with it.
+    ghost answer: { Self → Returned };
+
+    // Its number.
+    fn number(self) -> u8
+        ensures { result ≡ (answer self).number };
+
+    // The value that goes with it: the offset of the fault, or the bytes needed, or 0.
+    fn value(self) -> usize
+        ensures { (answer self).values ≡ result ∷ [] };
+}
+
 // Why rewrite writes nothing: a refusal of check; or the output is too small for so many bytes.
 #[derive(Clone, Copy, PartialEq, Eq, Debug)]
 pub enum RewriteError {
@@ -47,23 +62,19 @@ pub enum RewriteError {
     Room(usize),
 }
 
-impl RewriteError {
-    // Its number.
+impl Refuses for RewriteError {
+    ghost answer = { λ e. rewrite_answer (Err e) };
+
     #[tactic(auto, unfolding(crate::specs::Rewrite::rewrite_answer))]
-    pub fn number(self) -> u8
-        ensures { result ≡ (rewrite_answer (Err self)).number }
-    {
+    fn number(self) -> u8 {
         match self {
             RewriteError::Refused(f) => u8::from(f.refusal),
             RewriteError::Room(_) => 9,
         }
     }
 
-    // The value that goes with it: the offset of the fault, or the bytes needed.
     #[tactic(auto, unfolding(crate::specs::Rewrite::rewrite_answer))]
-    pub fn value(self) -> usize
-        ensures { (rewrite_answer (Err self)).values ≡ result ∷ [] }
-    {
+    fn value(self) -> usize {
         match self {
             RewriteError::Refused(f) => f.offset,
             RewriteError::Room(n) => n,
@@ -86,23 +97,19 @@ pub enum FiguresError {
     TooFew,
 }
 
-impl FiguresError {
-    // Its number.
+impl Refuses for FiguresError {
+    ghost answer = { λ e. figures_answer (Err e) };
+
     #[tactic(auto, unfolding(crate::specs::Figures::figures_answer))]
-    pub fn number(self) -> u8
-        ensures { result ≡ (figures_answer (Err self)).number }
-    {
+    fn number(self) -> u8 {
         match self {
             FiguresError::Refused(f) => u8::from(f.refusal),
             FiguresError::TooFew => 12,
         }
     }
 
-    // The value that goes with it: the offset of the fault, or 0.
     #[tactic(auto, unfolding(crate::specs::Figures::figures_answer))]
-    pub fn value(self) -> usize
-        ensures { (figures_answer (Err self)).values ≡ result ∷ [] }
-    {
+    fn value(self) -> usize {
         match self {
             FiguresError::Refused(f) => f.offset,
             FiguresError::TooFew => 0,
@@ -125,23 +132,19 @@ pub enum NameError {
     Mismatch,
 }
 
-impl NameError {
-    // Its number.
+impl Refuses for NameError {
+    ghost answer = { λ e. name_answer (Err e) };
+
     #[tactic(auto, unfolding(crate::specs::NameText::name_answer))]
-    pub fn number(self) -> u8
-        ensures { result ≡ (name_answer (Err self)).number }
-    {
+    fn number(self) -> u8 {
         match self {
             NameError::Refused(f) => u8::from(f.refusal),
             NameError::Mismatch => 11,
         }
     }
 
-    // The value that goes with it: the offset of the fault, or 0.
     #[tactic(auto, unfolding(crate::specs::NameText::name_answer))]
-    pub fn value(self) -> usize
-        ensures { (name_answer (Err self)).values ≡ result ∷ [] }
-    {
+    fn value(self) -> usize {
         match self {
             NameError::Refused(f) => f.offset,
             NameError::Mismatch => 0,

@@ -3,8 +3,7 @@
 use Prim.Native.Nat.{ℕ, ◌<◌, ◌^◌}
 use mathlib.Core.Path.{◌≡◌, refl, sym, ap, ◌∙◌, subst}
 use mathlib.Core.List.{List, [], ◌∷◌}
-use mathlib.Core.Bool.{Bool, true, false, not, ◌||◌}
-use native.Mathlib.Omega.{arith}
+use mathlib.Core.Bool.{Bool, true, not, ◌||◌}
 use lib.ListN.{length, length-map}
 use lib.Dec.{T, eqb}
 use lib.Ieee.Bits.{is_true}
@@ -14,53 +13,41 @@ use Rattle.arith.specs.Value.{tbool}
 use Rattle.arith.specs.Operation.{Expr, constant, one, two}
 use Rattle.arith.specs.Code.{code1, code2, with_code, one_of, two_of}
 use Rattle.record.specs.declared.NameIx.{NameIx}
-use Rattle.record.specs.declared.Shape.{Shape}
 use Rattle.record.specs.declared.Limits.{Limits}
 use Rattle.record.specs.Record.{Bytes, Instr, Placed, Block, Record, function, plain, type_in, arg, limits}
 use Rattle.record.specs.Shape.{shape_of}
 use Rattle.record.specs.Reader.{got}
 use Rattle.record.specs.Form.{Form, pure, branch, form, value_of}
 use Rattle.record.specs.Typing.{well_typed, accept}
-use Rattle.record.specs.Good.{Each, OperandsOk, InstrOk, BlockOk, RecordOk}
+use Rattle.record.specs.Good.{Each, InstrOk, BlockOk, RecordOk}
 use Rattle.record.specs.Ranged.{RangedInstr, RangedBlock, Ranged}
 use Rattle.record.proofs.Tests.{at_most_le, names_args, code_known, code_last}
 use Rattle.record.proofs.Form.{FormOf, of_constant, of_one, of_two, of_new, of_jump, of_branch, of_return, of_nop, of_effect, form_of, recode, all_below, at_known}
 use Rattle.record.proofs.Accepted.{read_ok}
 use Rattle.record.proofs.Ranged.{read_ranged}
 use Rattle.record.proofs.Typed.{TypedBody, TypedFunction, accept_typed}
-use Rattle.numbering.proofs.Codes.{reads_args, reads_below, instr_original}
+use Rattle.numbering.proofs.Codes.{reads_args, reads_below, instr_original, operands_of}
+use Rattle.std.specs.Bool.{beq}
+use Rattle.std.specs.Cmp.{booleans_Decides}
+use Rattle.std.proofs.lemmas.List.{nil_from_length}
 use Rattle.pairing.specs.Joint.{Typed}
 use Rattle.pairing.specs.Demand.{All}
 use Rattle.pairing.proofs.Fit.{terminates, FitInstr, FitBody, FitFunction}
 use Rattle.pairing.proofs.Rules.{one_typed, two_typed, fits_rule, branch_rule, constant_typed}
 
 -- ---- forms and shapes agree
-abbrev same : Bool → Bool → Bool
-same true b = b
-same false b = not b
-
-same_eq : (a b : Bool) → same a b ≡ true → a ≡ b
-same_eq true b e = sym e
-same_eq false true e = e
-same_eq false false e = refl
-
 abbrev agree : (NameIx → ℕ) → Instr → ℕ → Bool
-agree t i c = same (shape_of c).last (terminates (form t (recode i c)))
+agree t i c = beq (shape_of c).last (terminates (form t (recode i c)))
 
 -- computed at each code of the tables
 codes_agree : (t : NameIx → ℕ) (i : Instr) → all_below 72 (λ c. not (shape_of c).known || agree t i c) ≡ true
 unfolding shape_of form terminates one_of two_of with_code code1 code2
 codes_agree t i = refl
 
--- ---- lists
-empty : {A : Type 0} (xs : List A) → length xs ≡ 0 → xs ≡ []
-empty [] e = refl
-empty (x ∷ xs) e = absurd (omega arith)
-
 -- ---- an instruction that passes its tests
 module _ {N B left : ℕ} (t : NameIx → ℕ) (i : Instr) (ok : InstrOk N B left i) where
   last_terminates : (shape_of i.code).last ≡ terminates (form t i)
-  last_terminates = same_eq _ _ (at_known (agree t i) (codes_agree t i) i.code (code_known (eqb left 0) i.code ok.code))
+  last_terminates = (booleans_Decides _ _).0 (at_known (agree t i) (codes_agree t i) i.code (code_known (eqb left 0) i.code ok.code))
 
   -- a terminator has nothing behind it
   stands_last : T (terminates (form t i)) → left ≡ 0
@@ -68,18 +55,13 @@ module _ {N B left : ℕ} (t : NameIx → ℕ) (i : Instr) (ok : InstrOk N B lef
       let l : (shape_of i.code).last ≡ true = last_terminates ∙ is_true (terminates (form t i)) h in
       eqb-true left 0 (code_last (eqb left 0) i.code ok.code l)
 
-  -- ---- operands
-  -- what follows a code of the shape sh
-  operands_of : (sh : Shape) → shape_of i.code ≡ sh → OperandsOk N B sh i
-  operands_of sh e = subst (λ (z : Shape). OperandsOk N B z i) e ok.rest
-
   -- ---- types
   module _ (range : i.lit.bits < 256 ^ 8) (rule : well_typed t i ≡ true) where
     form_typed : {f : Form} → FormOf t i f → (e : Expr NameIx) → f ≡ pure e → Typed t e (t i.dest)
     unfolding shape_of
     form_typed (of_constant c) e p =
         let v = value_of (t i.dest) i.lit.kind i.lit.bits in
-        let h = (operands_of (shape_of 0) (ap shape_of c)).lit in
+        let h = (operands_of N B left t i ok (shape_of 0) (ap shape_of c)).lit in
         let j : constant v ≡ e = cc in
         subst (λ (e : Expr NameIx). Typed t e (t i.dest)) j
         (constant_typed (t i.dest) i.lit.kind i.lit.bits
@@ -126,7 +108,7 @@ module _ (N B w : ℕ) (t : NameIx → ℕ) where
   body_fit [] ok range typed = tt
   body_fit (i ∷ is) ok range typed = (
     instr_fit t i ok.0 range.0.bits typed.0,
-    ((λ h. empty is (stands_last t i ok.0 h)), body_fit is ok.1 range.1 typed.1),
+    ((λ h. nil_from_length is (stands_last t i ok.0 h)), body_fit is ok.1 range.1 typed.1),
   )
 
   blocks_fit :

@@ -2,12 +2,13 @@
 -- Rests on the steps of each kind of pair.
 use Prim.Native.Nat.{ℕ, suc, ◌+◌, ◌≤◌, ◌<◌}
 use mathlib.Core.Path.{◌≡◌, refl, sym, ap, ◌∙◌, subst}
-use mathlib.Core.Bool.{Bool, true, false, ◌&&◌, cond}
+use mathlib.Core.Bool.{true, false, cond}
 use mathlib.Core.Option.{Option, none, some}
 use mathlib.Core.List.{List, [], ◌∷◌}
 use native.Mathlib.Omega.{arith}
 use lib.Dec.{leb}
 use borrow.Author.Tests.{leb-true}
+use Rattle.record.proofs.Tests.{and_right}
 use lib.ListN.{take}
 use Rattle.arith.specs.declared.One.TheVariants.{Id}
 use Rattle.arith.specs.Value.{Val}
@@ -89,11 +90,7 @@ pair_left Γ j j' i k is ks n h ih ρ m₁ m₂ e p q R a =
 -- ---- a copy to a made name
 save_made : (N : ℕ) (k : Instr) → is_save N k ≡ true → N ≤ k.dest.0
 unfolding is_save
-save_made N k p = leb-true N k.dest.0 (right (shape_of k.code).dest (leb N k.dest.0) p)
-  where
-    right : (a b : Bool) → a && b ≡ true → b ≡ true
-    right true b q = q
-    right false b q = cc
+save_made N k p = leb-true N k.dest.0 (and_right (shape_of k.code).dest (leb N k.dest.0) p)
 
 made_step :
     (ctx : Context) (k : Instr) (m : Mach) (x : NameIx) (v : Val) →

@@ -2,14 +2,14 @@
 -- and sets no name that the record does not have. Rests on the types of an accepted function, and on the run by steps.
 use Prim.Native.Nat.{ℕ, zero, suc, ◌≤◌, ◌<◌}
 use mathlib.Core.Path.{◌≡◌, refl, sym, ap, ◌∙◌, subst}
-use mathlib.Core.Bool.{Bool, true}
+use mathlib.Core.Bool.{true}
 use mathlib.Core.Option.{Option, none, some}
 use mathlib.Core.List.{List, [], ◌∷◌, ◌++◌, map}
 use native.Mathlib.Omega.{arith}
 use native.Mathlib.Decide.{dec_lt}
 use lib.ListN.{length, get_or}
-use lib.Dec.{T}
 use lib.Ieee.Bits.{is_true}
+use Rattle.std.specs.Bool.{passes}
 use Rattle.arith.proofs.Clash.{clash}
 use Rattle.arith.specs.Map.{pick, upd}
 use Rattle.arith.specs.Value.{Val, has_type, HasType}
@@ -133,12 +133,9 @@ holding_sound : (ts : List ℕ) (vs : List (Option Val)) → of_types ts vs ≡ 
 unfolding type_in
 holding_sound ts vs e =
     record {
-      typed = λ x v p. true_is (has_type (type_in ts x) v) (holding_typed ts vs e x.0 v p);
+      typed = λ x v p. passes (has_type (type_in ts x) v) (holding_typed ts vs e x.0 v p);
       beyond = λ x l. holding_beyond ts vs e x.0 l;
     }
-  where
-    true_is : (b : Bool) → b ≡ true → T b
-    true_is b p = rw p tt
 
 -- the types of an accepted record's names
 names_pass : (lim : Limits) (seen : List (List ℕ)) (xs : List Name) → NamesOk lim seen xs → TypesPass (map (λ x. x.type) xs)

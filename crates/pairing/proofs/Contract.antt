@@ -9,7 +9,6 @@ use lib.ListN.{length, take, drop, length-take, take-append-drop}
 use lib.Seq.{take-append_seam, drop-append_seam}
 use Rattle.arith.proofs.Clash.{clash}
 use Rattle.std.specs.Prelude.{Ok, Err}
-use Rattle.record.specs.declared.Fault.{Fault}
 use Rattle.record.specs.Record.{Bytes, Placed, Record, plain, function, limits, wide}
 use Rattle.record.specs.Reader.{got}
 use Rattle.record.specs.Read.{read}

@@ -4,7 +4,7 @@
 use Prim.Native.Nat.{ℕ, zero, suc, ◌+◌}
 use mathlib.Core.Path.{◌≡◌, refl, sym, ap, ◌∙◌, subst}
 use mathlib.Core.Logic.{◌≢◌}
-use mathlib.Core.Bool.{Bool, true, false, ◌&&◌, true≢false}
+use mathlib.Core.Bool.{Bool, true, false, ◌&&◌, true≢false, and_assoc}
 use mathlib.Core.List.{List, [], ◌∷◌, ◌++◌}
 use mathlib.Core.Option.{Option, none, some, none-ne-some}
 use native.Mathlib.Nat.{add-zero}
@@ -176,11 +176,7 @@ module _ (N : ℕ) (ctx : Context) (performed : (i : Instr) → Performed ctx i)
   none_unset_append [] ds = refl
   none_unset_append (c ∷ cs) ds =
       ap (λ b. all_set c.store c.instr.args && b) (none_unset_append cs ds) ∙
-      and_assoc (all_set c.store c.instr.args) (none_unset cs) (none_unset ds)
-    where
-      and_assoc : (a b c : Bool) → (a && (b && c)) ≡ ((a && b) && c)
-      and_assoc true b c = refl
-      and_assoc false b c = refl
+      sym (and_assoc (all_set c.store c.instr.args) (none_unset cs) (none_unset ds))
 
   pub run_ran :
       (σ : Store) (answers : List Answer) → TypedIn N types σ → (n : ℕ) →

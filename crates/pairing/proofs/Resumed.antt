@@ -5,29 +5,29 @@ use mathlib.Core.Path.{◌≡◌, refl, sym, ap, ◌∙◌}
 use mathlib.Core.Bool.{Bool, true, false, cond, not, ◌&&◌, ◌||◌}
 use mathlib.Core.Logic.{◌↔◌}
 use mathlib.Core.Option.{Option}
-use mathlib.Core.List.{List, [], ◌∷◌, ◌++◌, append_assoc}
+use mathlib.Core.List.{List, [], ◌++◌}
 use native.Mathlib.Omega.{arith}
 use lib.ListN.{length, take, drop, length-append}
 use lib.Seq.{take-append_seam}
-use borrow.Author.Tests.{le-ltb}
+use borrow.Author.Tests.{not-true}
 use Rattle.arith.proofs.Clash.{clash}
 use Rattle.arith.specs.Value.{Val}
 use Rattle.record.specs.Record.{Bytes, Placed, Record, Function, function, plain, names_of, limits, id_bytes}
 use Rattle.record.specs.Reader.{got}
-use Rattle.record.specs.Write.{join}
 use Rattle.record.proofs.Tests.{and_left, and_right}
 use Rattle.running.specs.declared.Ending.{Ending}
 use Rattle.running.specs.declared.RunError.TheVariants.{Unfit}
-use Rattle.std.specs.Prelude.{Ok, Err}
+use Rattle.std.specs.Prelude.{Err}
 use Rattle.running.specs.Engine.{done}
 use Rattle.machine.specs.Machine.{Store, Context, plain_machine, Answer, Event, Mach}
 use Rattle.running.specs.Steps.{Config, land, steps, start, shifted}
-use Rattle.running.specs.House.{of_types, holding, values_from, store_bytes, answers_bytes, event_bytes, events_bytes}
+use Rattle.running.specs.House.{of_types, holding, values_from, store_bytes, answers_bytes, events_bytes}
 use Rattle.running.specs.Engine.{unfit_within, Outcome, refused, unfit, ran, starting, running_for, lets_pass, with_inputs, outcome, ending_of, events_left, store_left, too_short, result, written, engine, engine_events, engine_store}
 use Rattle.running.proofs.Resumed.{resumed, unfit_resumed}
 use Rattle.running.proofs.Answers.{Answerable, answers_back}
 use Rattle.running.proofs.Given.{read_answerable, left_told}
-use Rattle.running.proofs.Engine.{Given, outcome_comes, Tells, result_tells, IsMachine, engine_is_machine, events_written, store_written}
+use Rattle.running.proofs.Bounds.{events_append}
+use Rattle.running.proofs.Engine.{Given, enough_room, outcome_comes, Tells, result_tells, IsMachine, engine_is_machine, events_written, store_written}
 use Rattle.running.proofs.Cases.{given_outcome, result_unfit}
 use Rattle.pairing.proofs.Continued.{Continues, left_continues}
 
@@ -46,10 +46,6 @@ behind_unfit : (es : List Event) (k : ℕ) (o : Outcome) → behind es k o ≡ u
 behind_unfit es k (refused a b) e = clash (cc e)
 behind_unfit es k unfit e = refl
 behind_unfit es k (ran w N c) e = clash (cc e)
-
-not_false : (b : Bool) → not b ≡ true → b ≡ false
-not_false true e = clash (cc e)
-not_false false e = refl
 
 -- ---- what a call comes to
 module _
@@ -101,7 +97,7 @@ module _
     pass_one =
         let a : of_types f.types g.values ≡ true = and_left (of_types f.types g.values) _ pass in
         let b : unfit_within ctx f.blocks limit (starting f g.values g.told) ≡ false =
-        not_false _ (and_right (of_types f.types g.values) _ pass) in
+        not-true _ (and_right (of_types f.types g.values) _ pass) in
         let u = unfit_resumed ctx f.blocks (holding g.values) g.told limit j stands in
         (λ i. a i && not (u i))
         ∙ ap (λ (x : Bool). not (x || unfit_within ctx f.blocks j (start f.blocks c.mach.store xs))) b
@@ -130,19 +126,9 @@ module _
         ∙ ap (behind es k) (sym (given_outcome s (store_bytes vs) (answers_bytes xs) j [] [] left_given))
 
 -- ---- what two calls say and leave, and one over both limits
-events_append : (w : ℕ) (es fs : List Event) → events_bytes w (es ++ fs) ≡ events_bytes w es ++ events_bytes w fs
-unfolding events_bytes join
-events_append w [] fs = refl
-events_append w (e ∷ es) fs =
-    ap (λ (l : List ℕ). event_bytes w e ++ l) (events_append w es fs)
-    ∙ sym (append_assoc (event_bytes w e) (events_bytes w es) (events_bytes w fs))
-
 -- what was written at the front of what was lent
 taken : (b lent out : List ℕ) (n : ℕ) → out ≡ written b lent → length b ≡ n → take n out ≡ b
 taken b lent out n p q = (λ i. take (sym q i) (p i)) ∙ take-append_seam b (drop (length b) lent)
-
-enough_room : (room more e l : ℕ) → e ≤ room → l ≤ more → too_short room more e l ≡ false
-enough_room room more e l h k = rw (le-ltb room e h, le-ltb more l k)
 
 ran_done :
     (room more : ℕ) (o : Outcome) (w N : ℕ) (c : Config) →

@@ -4,10 +4,12 @@ use Prim.Native.Nat.{ℕ, ◌<◌}
 use mathlib.Core.Path.{◌≡◌, refl, sym, ap, ◌∙◌}
 use mathlib.Core.Logic.{◌≢◌}
 use mathlib.Core.Bool.{Bool, true, false, cond, beq, ◌&&◌, ◌||◌, and_comm, and-false, and-true, or_comm, or-true, or-false}
-use mathlib.Core.Option.{Option, none, some, get_or}
+use mathlib.Core.Option.{Option, none, some}
 use lib.Ieee.Fits.{and_r}
 use lib.Dec.{T, ltb, eqb, eqb→eq, ltb→lt}
 use borrow.Author.Tests.{eq-eqb}
+use lib.Ieee.Bits.{is_true}
+use Rattle.std.specs.Cmp.{booleans_Decides}
 use Rattle.arith.specs.declared.One.{One}
 use Rattle.arith.specs.declared.Two.{Two}
 use Rattle.arith.specs.declared.Two.TheVariants.{Add, Sub, Mul, Div, Eq, Lt, Gt, Le, Ge, And, Or, PtrAdd}
@@ -19,6 +21,7 @@ use Rattle.arith.proofs.Operation.{with_one_set, with_both_set, ints_set, bools_
 use Rattle.numbering.specs.declared.ValNum.{ValNum}
 use Rattle.numbering.specs.State.{vn, known_value, known_expr}
 use Rattle.numbering.specs.Simplify.{folded, fold1, fold2, is_int, is_bool, id_of, gives, absorbs, identity, sorted, ordered, first, simplify1, simplify2, simplify}
+use Rattle.numbering.proofs.Simplified.{Found, get_or_ok, first_ok}
 use Rattle.pairing.specs.Joint.{Fits, InRange, Stands}
 
 -- ---- what is known of a number is its value
@@ -59,21 +62,15 @@ operand vals ρ fits range a u p = record { set = p; known = is; range = range a
 
 -- ---- an expression with the result r, if there is one
 module _ (ρ : ValNum → Option Val) (r : Result) where
+  abbrev Comes : Expr ValNum → Type 0
+  Comes e = eval ρ e ≡ r
+
   abbrev Gives : Option (Expr ValNum) → Type 0
-  Gives none = Unit {0}
-  Gives (some e) = eval ρ e ≡ r
+  Gives = Found Comes
 
   gives_test : (t : Bool) (e : Expr ValNum) (other : Option (Expr ValNum)) → (T t → eval ρ e ≡ r) → Gives other → Gives (gives t e other)
   gives_test true e other f g = f tt
   gives_test false e other f g = g
-
-  gives_first : (e f : Option (Expr ValNum)) → Gives e → Gives f → Gives (first e f)
-  gives_first none f p q = q
-  gives_first (some e) f p q = p
-
-  gives_else : (e : Option (Expr ValNum)) (d : Expr ValNum) → Gives e → eval ρ d ≡ r → eval ρ (get_or e d) ≡ r
-  gives_else none d p q = q
-  gives_else (some e) d p q = p
 
 -- ---- folds, over the operator
 folded_gives : (ρ : ValNum → Option Val) (r : Result) → Gives ρ r (folded r)
@@ -111,12 +108,6 @@ is_int_some n (some (char c)) t = absurd t
 is_int_some n (some (bool b)) t = absurd t
 is_int_some n (some (pointer p b o)) t = absurd t
 
-beq_is : (b c : Bool) → T (beq b c) → b ≡ c
-beq_is true true t = refl
-beq_is true false t = absurd t
-beq_is false true t = absurd t
-beq_is false false t = refl
-
 is_bool_some : (c : Bool) (x : Option Val) → T (is_bool c x) → x ≡ some (bool c)
 unfolding is_bool
 is_bool_some c none t = absurd t
@@ -124,7 +115,7 @@ is_bool_some c (some (int w)) t = absurd t
 is_bool_some c (some (float b)) t = absurd t
 is_bool_some c (some (literal w)) t = absurd t
 is_bool_some c (some (char k)) t = absurd t
-is_bool_some c (some (bool b)) t = ap (λ k. some (bool k)) (beq_is b c t)
+is_bool_some c (some (bool b)) t = ap (λ k. some (bool k)) ((booleans_Decides b c).0 (is_true (beq b c) t))
 is_bool_some c (some (pointer p b o)) t = absurd t
 
 -- a kind of value that is tested: ints, or bools
@@ -306,7 +297,7 @@ simplify1_alike :
     eval ρ (simplify1 o x a) ≡ eval ρ (one o a)
 unfolding simplify1 eval with_one
 simplify1_alike ρ o a x u A =
-    gives_else ρ (eval ρ (one o a)) (fold1 o x) (one o a) (rw A.set (fold1_gives ρ o a x u A)) refl
+    get_or_ok (Comes ρ (eval ρ (one o a))) (fold1 o x) (one o a) (rw A.set (fold1_gives ρ o a x u A)) refl
 
 simplify2_alike :
     (ρ : ValNum → Option Val) (o : Two) (a b : ValNum) (x y : Option Val) (u v : Val) →
@@ -320,8 +311,8 @@ simplify2_alike ρ o a b x y u v A B h =
     let found = first (fold2 o x y) (identity o x y a b) in
     let folds = fold2_gives ρ o a b x y u v A B in
     let identities = identity_gives ρ a b x y o u v (λ p. h (r ∙ p)) A B in
-    let right : Gives ρ (apply2 o u v) found = gives_first ρ (apply2 o u v) (fold2 o x y) (identity o x y a b) folds identities in
-    gives_else ρ (apply2 o u v) found (ordered o a b) right (ordered_alike ρ o a b ∙ r) ∙ sym r
+    let right : Gives ρ (apply2 o u v) found = first_ok (Comes ρ (apply2 o u v)) (fold2 o x y) (identity o x y a b) folds identities in
+    get_or_ok (Comes ρ (apply2 o u v)) found (ordered o a b) right (ordered_alike ρ o a b ∙ r) ∙ sym r
 
 pub simplify_stands :
     (vals : ValNum → Option (Expr ValNum)) (e : Expr ValNum) → Stands vals e (simplify (λ v. known_expr (vals v)) e)

@@ -3,7 +3,7 @@
 use Prim.Native.Nat.{ℕ, ◌<◌}
 use mathlib.Core.Path.{◌≡◌, refl, sym, ◌∙◌, subst}
 use mathlib.Core.Bool.{Bool, true, false, cond}
-use mathlib.Core.Option.{Option, none, some, get_or}
+use mathlib.Core.Option.{Option, none, some}
 use native.Mathlib.Omega.{arith}
 use lib.Dec.{T, ltb, eqb, lt→ltb}
 use Rattle.arith.specs.declared.One.{One}
@@ -15,8 +15,9 @@ use Rattle.arith.specs.Value.{tint, tbool, Val, int, bool, type_of, in_range, Ha
 use Rattle.arith.specs.Operation.{Result, ok, stops, unset, apply1, apply2, Expr, constant, one, two}
 use Rattle.numbering.specs.declared.ValNum.{ValNum}
 use Rattle.numbering.specs.Number.{numbered}
-use Rattle.numbering.specs.Simplify.{folded, fold1, fold2, is_int, is_bool, gives, absorbs, identity, sorted, ordered, first, simplify1, simplify2, simplify}
+use Rattle.numbering.specs.Simplify.{folded, fold1, fold2, is_int, is_bool, absorbs, identity, sorted, ordered, first, simplify1, simplify2, simplify}
 use Rattle.pairing.specs.Joint.{Takes}
+use Rattle.numbering.proofs.Simplified.{Found, get_or_ok, first_ok, gives_ok}
 use Rattle.pairing.proofs.Typing.{Yields, Kept, not_keeps, apply2_keeps}
 
 -- a constant of type d that a value expression may be
@@ -54,22 +55,12 @@ constants_kept =
     }
 
 module _ (P : ValNum → ℕ → Type 0) where
+  abbrev OfType : ℕ → Expr ValNum → Type 0
+  OfType d e = TypedBy P e d
+
   -- an expression of type d, where there is one
   abbrev Fine : ℕ → Option (Expr ValNum) → Type 0
-  Fine d none = Unit {0}
-  Fine d (some e) = TypedBy P e d
-
-  fine_gives : (d : ℕ) (c : Bool) (e : Expr ValNum) (o : Option (Expr ValNum)) → TypedBy P e d → Fine d o → Fine d (gives c e o)
-  fine_gives d true e o h k = h
-  fine_gives d false e o h k = k
-
-  fine_first : (d : ℕ) (o o' : Option (Expr ValNum)) → Fine d o → Fine d o' → Fine d (first o o')
-  fine_first d none o' h k = k
-  fine_first d (some e) o' h k = h
-
-  fine_get_or : (d : ℕ) (o : Option (Expr ValNum)) (e : Expr ValNum) → Fine d o → TypedBy P e d → TypedBy P (get_or o e) d
-  fine_get_or d none e h k = k
-  fine_get_or d (some e') e h k = h
+  Fine d = Found (OfType d)
 
   -- ---- folds
   folded_fine : (d : ℕ) (r : Result) → Yields (Constant d) r → Fine d (folded r)
@@ -107,9 +98,9 @@ module _ (P : ValNum → ℕ → Type 0) where
       (z neutral : Bool) (x y : Option Val) (a b : ValNum) (d : ℕ) → P a d → P b d → d ≡ tbool →
       Fine d (absorbs z neutral x y a b)
   absorbs_fine z neutral x y a b d p q e =
-      fine_gives d (is_bool z x) _ _ (bool_constant d z e)
-      (fine_gives d (is_bool z y) _ _ (bool_constant d z e)
-      (fine_gives d (is_bool neutral x) (one Id b) _ q (fine_gives d (is_bool neutral y) (one Id a) none p tt)))
+      gives_ok (OfType d) (is_bool z x) _ _ (bool_constant d z e)
+      (gives_ok (OfType d) (is_bool z y) _ _ (bool_constant d z e)
+      (gives_ok (OfType d) (is_bool neutral x) (one Id b) _ q (gives_ok (OfType d) (is_bool neutral y) (one Id a) none p tt)))
 
   identity_fine :
       (o : Two) (x y : Option Val) (a b : ValNum) (r s d : ℕ) → P a r → P b s → Takes o r s d → Fine d (identity o x y a b)
@@ -117,21 +108,21 @@ module _ (P : ValNum → ℕ → Type 0) where
   identity_fine Add x y a b r s d p q h =
       let p' : P a d = subst (P a) (h.0 ∙ sym h.2) p in
       let q' : P b d = subst (P b) (h.1 ∙ sym h.2) q in
-      fine_gives d (is_int 0 x) (one Id b) _ q' (fine_gives d (is_int 0 y) (one Id a) none p' tt)
+      gives_ok (OfType d) (is_int 0 x) (one Id b) _ q' (gives_ok (OfType d) (is_int 0 y) (one Id a) none p' tt)
   identity_fine Sub x y a b r s d p q h = tt
   identity_fine Mul x y a b r s d p q h =
       let p' : P a d = subst (P a) (h.0 ∙ sym h.2) p in
       let q' : P b d = subst (P b) (h.1 ∙ sym h.2) q in
       let zero : Constant d (int 0) = int_constant d 0 h.2 (omega arith) in
-      fine_gives d (is_int 0 x) (constant (int 0)) _ zero
-      (fine_gives d (is_int 0 y) (constant (int 0)) _ zero
-      (fine_gives d (is_int 1 x) (one Id b) _ q'
-      (fine_gives d (is_int 1 y) (one Id a) _ p'
-      (fine_gives d (is_int 2 x) (two Add b b) _ (s, s, q, q, (h.1, h.1, h.2))
-      (fine_gives d (is_int 2 y) (two Add a a) none (r, r, p, p, (h.0, h.0, h.2)) tt)))))
+      gives_ok (OfType d) (is_int 0 x) (constant (int 0)) _ zero
+      (gives_ok (OfType d) (is_int 0 y) (constant (int 0)) _ zero
+      (gives_ok (OfType d) (is_int 1 x) (one Id b) _ q'
+      (gives_ok (OfType d) (is_int 1 y) (one Id a) _ p'
+      (gives_ok (OfType d) (is_int 2 x) (two Add b b) _ (s, s, q, q, (h.1, h.1, h.2))
+      (gives_ok (OfType d) (is_int 2 y) (two Add a a) none (r, r, p, p, (h.0, h.0, h.2)) tt)))))
   identity_fine Div x y a b r s d p q h = tt
   identity_fine Eq x y a b r s d p q h =
-      fine_gives d (eqb a.0 b.0) (constant (bool true)) none (bool_constant d true h.2) tt
+      gives_ok (OfType d) (eqb a.0 b.0) (constant (bool true)) none (bool_constant d true h.2) tt
   identity_fine Lt x y a b r s d p q h = tt
   identity_fine Gt x y a b r s d p q h = tt
   identity_fine Le x y a b r s d p q h = tt
@@ -140,7 +131,7 @@ module _ (P : ValNum → ℕ → Type 0) where
       absorbs_fine false true x y a b d (subst (P a) (h.0 ∙ sym h.2) p) (subst (P b) (h.1 ∙ sym h.2) q) h.2
   identity_fine Or x y a b r s d p q h =
       absorbs_fine true false x y a b d (subst (P a) (h.0 ∙ sym h.2) p) (subst (P b) (h.1 ∙ sym h.2) q) h.2
-  identity_fine PtrAdd x y a b r s d p q h = fine_gives d (is_int 0 y) (one Id a) none (subst (P a) (sym h.2) p) tt
+  identity_fine PtrAdd x y a b r s d p q h = gives_ok (OfType d) (is_int 0 y) (one Id a) none (subst (P a) (sym h.2) p) tt
 
   -- ---- the order of operands
   sorted_typed : (o : Two) (a b : ValNum) (d : ℕ) → TypedBy P (two o a b) d → TypedBy P (two o b a) d → TypedBy P (sorted o a b) d
@@ -171,10 +162,10 @@ module _ (P : ValNum → ℕ → Type 0) where
   unfolding simplify simplify1 simplify2
   simplify_typed known k (constant v) d h = h
   simplify_typed known k (one o a) d h =
-      fine_get_or d (fold1 o (known a)) (one o a) (fold1_fine o a d (known a) h (λ t c p e. k a t c p e)) h
+      get_or_ok (OfType d) (fold1 o (known a)) (one o a) (fold1_fine o a d (known a) h (λ t c p e. k a t c p e)) h
   simplify_typed known k (two o a b) d (r, s, p, q, h) =
-      fine_get_or d (first (fold2 o (known a) (known b)) (identity o (known a) (known b) a b)) (ordered o a b)
-      (fine_first d (fold2 o (known a) (known b)) (identity o (known a) (known b) a b)
+      get_or_ok (OfType d) (first (fold2 o (known a) (known b)) (identity o (known a) (known b) a b)) (ordered o a b)
+      (first_ok (OfType d) (fold2 o (known a) (known b)) (identity o (known a) (known b) a b)
       (fold2_fine o r s d (known a) (known b) h (λ c e. k a r c p e))
       (identity_fine o (known a) (known b) a b r s d p q h))
       (ordered_typed o a b r s d p q h)

@@ -20,7 +20,6 @@ use Rattle.arith.specs.Operation.{Cause, by_zero, ok, stops, divide, constant, t
 use Rattle.arith.proofs.Signed.{word_of, div_w_wraps}
 use Rattle.arith.proofs.Operation.{divide_stops}
 use Rattle.record.specs.declared.NameIx.{NameIx}
-use Rattle.record.specs.declared.Refusal.{Refusal}
 use Rattle.std.specs.Prelude.{Ok, Err}
 use Rattle.record.specs.declared.Fault.{Fault}
 use Rattle.record.specs.Record.{nm, Bytes, Instr, Placed, Block, Name, Record, Function, plain, function, texts, names_of, type_in, arg, limits, wide}

@@ -9,8 +9,7 @@ use mathlib.Core.List.{List}
 use mathlib.Core.Option.{Option}
 use lib.ListN.{length, drop}
 use Rattle.arith.specs.Value.{Val}
-use Rattle.record.specs.declared.Refusal.{Refusal}
-use Rattle.std.specs.Prelude.{Ok, Err}
+use Rattle.std.specs.Prelude.{Err}
 use Rattle.record.specs.declared.Fault.{Fault}
 use Rattle.record.specs.Record.{Bytes, Placed, Record, Function, plain, function, limits, id_bytes}
 use Rattle.record.specs.Reader.{got}

@@ -1,15 +1,16 @@
 // Fields of a record: the reader, their numbers, the tests of them, and the fields that more than one part of a record has.
 #![tactic(auto)]
 
-ghost use Rattle.std.specs.Prelude.{◌≡◌, cond, ◌+◌, ◌-◌, ◌^◌, ◌<◌, ◌≤◌, length, get_or};
+ghost use Rattle.std.specs.Prelude.{◌≡◌, true, cond, ◌+◌, ◌-◌, ◌%◌, ◌^◌, ◌<◌, ◌≤◌, length, get_or, leb};
+ghost use Rattle.record.specs.Record.{nm, type_in};
 ghost use Rattle.record.specs.Reader.{got, then, num_at, field, judge, times};
 ghost use Rattle.record.specs.Tests.{need, any, at_most, below};
 ghost use Rattle.record.specs.Answer.{fault_at, verdict};
 ghost use Rattle.read_fields.specs.Answer.{res, Tests};
-ghost use Rattle.read_fields.specs.Opens.{opens};
+ghost use Rattle.read_fields.specs.Opens.{opens, longest_form};
 ghost use Rattle.read_fields.specs.Places.{places};
 
-use record::{Fault, Refusal};
+use record::{CHAR, Fault, Refusal};
 
 // A field's number and the place behind it, or why it is refused.
 pub type Num = Result<(u64, usize), Fault>;
@@ -44,8 +45,9 @@ pub fn left(s: &[u8], at: usize) -> usize
 }
 
 // ---- the record reader
-// A lent record and the place at which it is read. Every field whose number is looked at is read through it. The functions below take s and at
-// as the definitions' readers do, and each goes on at the place that the one before it gave: a reader to pass would be made anew for each.
+// A lent record and the place at which it is read: the reader that document 01 asks for (docs/DECISIONS.md 31). Every field whose number is
+// looked at is read through it. The functions below take s and at as the definitions' readers do, and each goes on at the place that the one
+// before it gave: a reader to pass would be made anew for each.
 #[derive(Drop)]
 pub struct Reader<'a> {
     pub src: &'a [u8],
@@ -93,13 +95,23 @@ pub fn skip_at(s: &[u8], at: usize, w: usize) -> Next
 
 // ---- numbers of fields whose bytes past the end count as 0
 // The byte at a place, 0 past the end.
+pub fn u8_at(s: &[u8], at: usize) -> u8
+    ensures { result ≡ get_or s.now at 0 }
+{
+    s.get(at).map_or(0, |b| *b)
+}
+
+// That byte, as the numbers of other fields are given.
 pub fn byte_or(s: &[u8], at: usize) -> u64
     ensures { (result ≡ get_or s.now at 0) × (result < 256) }
 {
-    s.get(at).map_or(0, |b| u64::from(*b))
+    u64::from(u8_at(s, at))
 }
 
-// The number of N bytes; bytes past the end count as 0. The last of them has a place. What lies within is read without a test for each byte.
+// That all bytes have a place is asked at each call, here and by each reader above: how many are read behind a place is another number each
+// time, so that no type of places could say it.
+
+// The number of N bytes; bytes past the end count as 0. What lies within is read without a test for each byte. By an index, as number_of.
 pub fn be<const N: usize>(s: &[u8], at: usize) -> u64
     requires { (N ≤ 8) × (at + N ≤ places) }
     ensures { (result ≡ num_at s.now at N) × (result < 256 ^ N) }
@@ -114,13 +126,31 @@ pub fn be<const N: usize>(s: &[u8], at: usize) -> u64
     x
 }
 
+// Of two bytes, whose type says that the number fits.
+pub fn u16_at(s: &[u8], at: usize) -> u16
+    requires { at + 2 ≤ places }
+    ensures { result ≡ num_at s.now at 2 }
+{
+    be::<2>(s, at) as u16
+}
+
 // ---- the head of a form
 // Whether a form of at least so many bytes opens with its length, which counts what follows it, and with this version.
 pub fn opens(s: &[u8], shortest: usize, version: u64) -> bool
-    ensures { result ≡ opens shortest version s.now }
+    ensures { (result ≡ opens shortest version s.now) × (result ≡ true → length s.now < longest_form) }
 {
-    // as: u64 and usize have no From; try_from would hand out an error that cannot be.
+    // as: u64 and usize have no From; try_from would give an error that cannot happen.
     shortest <= s.len() && be::<4>(s, 0) == left(s, 4) as u64 && byte_or(s, 4) == version
+}
+
+// ---- tables
+// The type of the name with this index, by the types of all names; 0 past the last.
+#[tactic(auto, unfolding(record::specs::Record::type_in))]
+pub fn type_of(types: &[u8], x: u64) -> u8
+    ensures { result ≡ type_in types.now (nm x) }
+{
+    // as: u64 and usize have no From; try_from would give an error that cannot happen.
+    u8_at(types, x as usize)
 }
 
 // ---- places
@@ -156,6 +186,13 @@ pub fn below(n: u64, x: u64) -> Test
     need(x < n, Refusal::Name)
 }
 
+// Whether a byte is a type: its low half is that of int, bool, float or char.
+pub fn is_type(x: u64) -> bool
+    ensures { result ≡ leb (x % 16) 3 }
+{
+    x % 16 <= u64::from(CHAR)
+}
+
 // A refusal at a place.
 pub fn fault(refusal: Refusal, offset: usize) -> Fault
     ensures { result ≡ fault_at refusal offset }
@@ -173,14 +210,6 @@ pub fn tested(n: Num, t: Test, at: usize) -> Num
     Ok((x, p))
 }
 
-// What the test t of a field at a place says: its number x and the place p behind it, or a refusal at the field.
-#[inline(always)]
-pub fn judged(t: Test, x: u64, p: usize, at: usize) -> Num
-    ensures { res result ≡ judge t at (got x p) }
-{
-    tested(Ok((x, p)), t, at)
-}
-
 // Where a field ends, its number forgotten.
 pub fn verdict(n: Num) -> Next
     ensures { result ≡ verdict (res n) }
@@ -188,14 +217,15 @@ pub fn verdict(n: Num) -> Next
     n.map(|(_, p)| p)
 }
 
-// A field of N bytes and the test of its number, for each t of which the closure's answers are those.
+// A field of N bytes whose number the closure tests. Where it answers to each number as a test t of the definitions does, this is the definitions'
+// field with that test.
 #[inline(always)]
 pub fn field_tested<const N: usize, F: FnOnce(u64) -> Test>(s: &[u8], at: usize, test: F) -> Num
     requires { (N ≤ 8) × F.IsAlwaysCallable test }
     ensures { (t : _) → Tests (F.post test) t → res result ≡ field N t s.now at }
 {
     let (x, p) = field_at::<N>(s, at)?;
-    judged(test(x), x, p, at)
+    tested(Ok((x, p)), test(x), at)
 }
 
 // ---- fields that several parts of a record have

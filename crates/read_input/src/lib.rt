@@ -32,8 +32,8 @@ pub fn read_full<R: Read>(reader: &mut R, buf: &mut [u8]) -> io::Result<usize>
     ensures bytes { IfOk result (λ n. Consumes (R.remaining reader.old) (R.remaining reader.new) (take n buf.new)) }
     ensures end { IfOk result (λ n. n < length buf.new → IsAtEnd (R.remaining reader.new)) }
 {
+    // What is still to be filled is behind so many bytes. `read_exact` would be shorter, and does not say how many bytes come before the end.
     let mut done = 0;
-    // `read_exact` would be shorter, and does not say how many bytes come before the end.
     while done < buf.len() {
         let n = read_some(reader, &mut buf[done..])?;
         if n == 0 {

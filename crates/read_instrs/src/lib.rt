@@ -17,13 +17,13 @@ ghost use Rattle.read_instrs.specs.Again.{lit_from, Readable, PartsAt, OperandsA
 use record::{Instruction, Literal, NameIx, Row, Shape};
 
 // An instruction and the place behind it.
-#[derive(Clone, Copy)]
+#[derive(Clone, Copy, Debug)]
 pub struct Read {
     pub instr: Instruction,
     pub next: usize,
 }
 
-// An id of w bytes, a number as the definitions take it (write_bytes::put_word).
+// An id of w bytes.
 pub fn read_id(s: &[u8], at: usize, w: usize) -> u64
     requires { (at + 7 < places) × IdWidth w }
     ensures { (result ≡ num_at s.now at w) × (result < 256 ^ w) }
@@ -39,11 +39,7 @@ fn two_if(there: bool, s: &[u8], at: usize) -> u16
     requires { at + 1 < places }
     ensures { result ≡ cond there (num_at s.now at 2) 0 }
 {
-    if there {
-        // as: a number that is known to fit, or u64 and usize, which have no From; try_from would hand out an error that cannot be.
-        return read_fields::be::<2>(s, at) as u16;
-    }
-    0
+    if there { read_fields::u16_at(s, at) } else { 0 }
 }
 
 // A literal, where it is there; else the int 0, which is what the definition's instruction has there.
@@ -64,8 +60,9 @@ fn read_row(s: &[u8], at: usize, n: u64) -> Row
     ensures { row_of result ≡ items (number_from s.now) two_on at n }
 {
     let mut items = [0u16; 8];
+    // as: the number fits, or u64 and usize have no From; try_from would give an error that cannot happen.
     for (i, x) in items[..n as usize].iter_mut().enumerate() {
-        *x = read_fields::be::<2>(s, at + 2 * i) as u16;
+        *x = read_fields::u16_at(s, at + 2 * i);
     }
     Row {
         items,
@@ -74,7 +71,7 @@ fn read_row(s: &[u8], at: usize, n: u64) -> Row
 }
 
 // Where the parts behind a code stand, and how many arguments and block numbers there are.
-#[derive(Clone, Copy)]
+#[derive(Clone, Copy, Debug)]
 struct Parts {
     shape: Shape,
     literal: usize,
@@ -85,8 +82,9 @@ struct Parts {
     targets: u64,
 }
 
-// The parts behind a code. read_layout::operands_end goes the same way for the end alone, and check_blocks::check_operands tests each part as it
-// goes: both would get seven numbers here for the one or two that they keep.
+// The parts behind a code. Two functions go the same way, and cannot do it by this one: read_layout::operands_end, for any bytes at all, has to ask
+// for the room of 255 arguments and as many block numbers, where this one asks for that of eight; check_blocks::check_operands has to refuse a part
+// before it looks for the next.
 fn parts_at(s: &[u8], at: usize, code: u8) -> Parts
     requires { (at + longest_operands < places) × (count_from (shape_of code) s.now (count_at (shape_of code) s.now at) ≤ 8) }
     ensures { PartsAt s.now at code result }
@@ -135,6 +133,6 @@ pub fn read_instr(s: &[u8], at: usize, w: usize) -> Read
     ensures { ReadAgain w s.now at result }
 {
     let id = read_id(s, at, w);
-    let code = read_fields::byte_or(s, at + w);
-    read_operands(s, at + w + 1, id, code as u8)
+    let code = read_fields::u8_at(s, at + w);
+    read_operands(s, at + w + 1, id, code)
 }

@@ -7,9 +7,8 @@ use native.Mathlib.Omega.{arith}
 use lib.ListN.{get_or}
 use Rattle.record.specs.declared.Shape.{Shape}
 use Rattle.record.specs.Shape.{targets, shape_of}
-use Rattle.record.specs.Record.{id_bytes}
 use Rattle.record.specs.Reader.{num_at}
-use Rattle.record.specs.Decode.{behind, two_on, count_from, lit_at, count_at, callee_at, targets_at, operands_end, instr_end, block_end, name_end, names_count, names_end}
+use Rattle.record.specs.Decode.{behind, two_on, count_from, lit_at, count_at, callee_at, targets_at, operands_end, instr_end, block_end, name_end, names_count, names_end, id_width}
 use Rattle.record.proofs.Decode.{behind_two, behind_args}
 use Rattle.read_layout.specs.declared.Layout.{Layout}
 use Rattle.read_layout.specs.Layout.{layout_of}
@@ -57,13 +56,12 @@ pub block_past :
 unfolding block_end
 block_past w s at n r e h = h ∙ ap (behind (instr_end w s) (at + 2 + 2)) e
 
--- ---- the head; n: how many names, e: where they end
+-- ---- the head; e: where the names end
 pub head_says :
     (s : List ℕ) (w a n e b : ℕ) →
-    w ≡ id_bytes (num_at s 4 1) → a ≡ num_at s 5 1 → n ≡ names_count s → e ≡ behind (name_end s) 8 n → b ≡ num_at s e 2 →
+    w ≡ id_width s → a ≡ num_at s 5 1 → n ≡ names_count s → b ≡ num_at s e 2 → e ≡ names_end s →
     ◌≡◌ {A = Layout} (record { width = w; args = a; names = n; end = e; blocks = b }) (layout_of s)
-unfolding layout_of names_end
-head_says s w a n e b ew ea en ee eb =
-    let e' : e ≡ names_end s = ee ∙ ap (behind (name_end s) 8) en in
-    let b' : b ≡ num_at s (names_end s) 2 = eb ∙ ap (λ (k : ℕ). num_at s k 2) e' in
-    λ i. record { width = ew i; args = ea i; names = en i; end = e' i; blocks = b' i }
+unfolding layout_of
+head_says s w a n e b ew ea en eb ee =
+    let b' : b ≡ num_at s (names_end s) 2 = eb ∙ ap (λ (k : ℕ). num_at s k 2) ee in
+    λ i. record { width = ew i; args = ea i; names = en i; end = ee i; blocks = b' i }

@@ -2,10 +2,11 @@
 // nothing is asked of the bytes.
 #![tactic(auto)]
 
-ghost use Rattle.std.specs.Prelude.{◌≡◌, ◌+◌, ◌*◌, ◌<◌, ◌≤◌, set};
+ghost use Rattle.std.specs.Prelude.{◌≡◌, ◌+◌, ◌*◌, ◌<◌, ◌≤◌, length, set};
 ghost use Rattle.std.proofs.lemmas.List.Edits.{sets};
 ghost use Rattle.record.specs.Record.{id_bytes};
-ghost use Rattle.record.specs.Decode.{behind, operands_end, instr_end, block_end, name_end, names_count, id_width};
+ghost use Rattle.record.specs.Reader.{num_at};
+ghost use Rattle.record.specs.Decode.{behind, name_from, operands_end, instr_end, block_end, name_end, names_count, names_end, id_width};
 ghost use Rattle.record.specs.Sizes.{places_end};
 ghost use Rattle.read_fields.specs.Places.{places};
 ghost use Rattle.read_layout.specs.Bounds.{widest_id, operands_reach, instr_reach, block_reach, name_reach};
@@ -65,7 +66,15 @@ pub fn instr_end(s: &[u8], w: usize, at: usize) -> usize
     operands_end(sh, s, at + w + 1)
 }
 
-// ---- the end of a block
+// ---- blocks
+// How many instructions the block at a place has, and where the first of them stands, behind the block's saves.
+pub fn block_head(s: &[u8], at: usize) -> (usize, usize)
+    requires { at + 4 < places }
+    ensures { (result.0 ≡ num_at s.now at 2) × ((result.0 < 65536) × (result.1 ≡ at + 2 + 2)) }
+{
+    (usize::from(read_fields::u16_at(s, at)), at + 2 + 2)
+}
+
 // The place behind n instructions.
 fn body_end(s: &[u8], w: usize, n: usize, at: usize) -> usize
     requires { (w ≤ widest_id) × (at + instr_reach * n < places) }
@@ -83,7 +92,8 @@ pub fn block_end(s: &[u8], w: usize, at: usize) -> usize
     requires { (w ≤ widest_id) × (at + block_reach < places) }
     ensures { (result ≡ block_end w s.now at) × (result ≤ at + block_reach) }
 {
-    body_end(s, w, read_fields::be::<2>(s, at) as usize, at + 2 + 2)
+    let (n, first) = block_head(s, at);
+    body_end(s, w, n, first)
 }
 
 // ---- tables
@@ -111,12 +121,22 @@ pub fn fill_blocks(s: &[u8], w: usize, places: &mut [u32], n: usize, at: usize) 
 }
 
 // ---- names
+// The text of the name at a place, which lies in the record.
+#[tactic(auto, unfolding(record::specs::Decode::name_end, record::specs::Decode::name_from))]
+pub fn text_of(s: &[u8], at: usize) -> &[u8]
+    requires { name_end s.now at ≤ length s.now }
+    ensures { result.now ≡ (name_from s.now at).text }
+{
+    let n = usize::from(read_fields::u8_at(s, at + 1));
+    &s[at + 2..at + 2 + n]
+}
+
 // The place behind the name at a place.
 pub fn name_end(s: &[u8], at: usize) -> usize
     requires { name_end s.now at < places }
     ensures { (result ≡ name_end s.now at) × (result ≤ at + name_reach) }
 {
-    at + 1 + 1 + (read_fields::byte_or(s, at + 1) as usize)
+    at + 1 + 1 + usize::from(read_fields::u8_at(s, at + 1))
 }
 
 // The types and the places of the n names from a place on, put into two tables from their start; the place behind the names. A table
@@ -130,7 +150,7 @@ pub fn fill_names(s: &[u8], types: &mut [u8], places: &mut [u32], n: usize, at: 
 {
     let mut p = at;
     for i in 0..n {
-        store(types, i, read_fields::byte_or(s, p) as u8);
+        store(types, i, read_fields::u8_at(s, p));
         store(places, i, p as u32);
         p = name_end(s, p);
     }
@@ -138,19 +158,35 @@ pub fn fill_names(s: &[u8], types: &mut [u8], places: &mut [u32], n: usize, at: 
 }
 
 // ---- the head
+// How many names there are.
+pub fn names_count(s: &[u8]) -> u16
+    ensures { result ≡ names_count s.now }
+{
+    read_fields::u16_at(s, 6)
+}
+
+// What the head says, where the names end at this place.
+pub fn layout_at(s: &[u8], end: usize) -> Layout
+    requires { end + 2 ≤ places }
+    ensures says { end ≡ names_end s.now → result ≡ layout_of s.now }
+    ensures names { (result.names ≡ names_count s.now) × (result.end ≡ end) }
+    ensures few { (result.width ≤ widest_id) × ((result.args < 256) × ((result.names < 65536) × (result.blocks < 65536))) }
+{
+    Layout {
+        width: id_width(s),
+        args: u16::from(read_fields::u8_at(s, 5)),
+        names: names_count(s),
+        end,
+        blocks: usize::from(read_fields::u16_at(s, end)),
+    }
+}
+
 // What the head says, and the types and places of the names.
 pub fn layout_of(s: &[u8], types: &mut [u8], places: &mut [u32]) -> Layout
     ensures { (result ≡ layout_of s.now) × Bounded result
         × (types.new ≡ sets types.old 0 (types_from s.now 8 (names_count s.now)))
         × (places.new ≡ sets places.old 0 (places_from s.now 8 (names_count s.now))) }
 {
-    let names = read_fields::be::<2>(s, 6);
-    let end = fill_names(s, types, places, names as usize, 8);
-    Layout {
-        width: id_width(s),
-        args: read_fields::byte_or(s, 5) as u16,
-        names: names as u16,
-        end,
-        blocks: read_fields::be::<2>(s, end) as usize,
-    }
+    let end = fill_names(s, types, places, usize::from(names_count(s)), 8);
+    layout_at(s, end)
 }

@@ -16,11 +16,11 @@ use Rattle.record.specs.declared.Refusal.TheVariants.{Length}
 use Rattle.record.specs.Reader.{Test}
 use Rattle.record.specs.Record.{nm, no_lit, most_args, most_blocks, id_bytes}
 use Rattle.record.specs.Shape.{targets, shape_of}
-use Rattle.record.specs.Reader.{Res, got, fault, Reader, then, refuse, give, ◌>>=◌, here, num_at, field, text, if_there, times}
+use Rattle.record.specs.Reader.{got, Reader, refuse, give, ◌>>=◌, here, num_at, field, text, if_there, times}
 use Rattle.record.specs.Tests.{any, at_most, below, length_test, version_test, names_test, type_test, text_length_test, text_test, saves_test, code_test, count_test, literal_test}
 use Rattle.record.specs.Read.{name_index, literal, arguments, operands, instr, block, name, names, length_field, end, contents, read}
 use Rattle.record.specs.Decode.{items, behind, two_on, index_from, number_from, count_from, count_at, operands_end, operands_from, instr_from, placed_from, instr_end, body_from, block_from, block_end, name_from, name_end, names_count, names_end, blocks_end, record_from}
-use Rattle.record.proofs.Fields.{field_tells, text_tells}
+use Rattle.record.proofs.Fields.{field_tells, text_tells, bind_got}
 
 -- ---- items in a row, by their number
 module _ {A : Type 0} (one : ℕ → A) (next : ℕ → ℕ) (d : A) where
@@ -79,14 +79,13 @@ pub bind_decodes :
     Decodes r s at x p →
     Decodes (f x) s p y q →
     Decodes (r >>= f) s at y q
-unfolding ◌>>=◌
-bind_decodes {A} {B} {r} f {s} {at} {x} {p} {y} {q} d e = record { told = λ z o h. go (r s at) refl z o h }
-  where
-    go : (v : Res A) → r s at ≡ v → (z : B) (o : ℕ) → then v (λ x p. f x s p) ≡ got z o → (z ≡ y) × (o ≡ q)
-    go (got x' p') k z o h =
-        let t : (x' ≡ x) × (p' ≡ p) = d.told x' p' k in
-        e.told z o (sym (λ i. f (t.0 i) s (t.1 i)) ∙ h)
-    go (fault a b) k z o h = clash (cc)
+bind_decodes {A} {B} {r} f {s} {at} {x} {p} {y} {q} d e =
+    record {
+      told = λ z o h.
+          let k = bind_got r f s at z o h in
+          let t : (k.value ≡ x) × (k.place ≡ p) = d.told k.value k.place k.first in
+          e.told z o (sym (λ i. f (t.0 i) s (t.1 i)) ∙ k.second);
+    }
 
 here_decodes :
     {B : Type 0} (f : ℕ → Reader B) {s : List ℕ} {at : ℕ} {y : B} {q : ℕ} →

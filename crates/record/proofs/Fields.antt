@@ -1,4 +1,5 @@
--- What a field or a text that is read without a fault tells: its value, its end, that it lies in the bytes, and that it passes its test.
+-- What a field or a text that is read without a fault tells: its value, its end, that it lies in the bytes, and that it passes its test;
+-- and what two readers, one after the other, do.
 use Prim.Native.Nat.{ℕ, ◌+◌, ◌-◌, ◌≤◌}
 use mathlib.Core.Path.{◌≡◌, refl, ap, ◌∙◌}
 use mathlib.Core.List.{List}
@@ -10,7 +11,7 @@ use Rattle.arith.proofs.Clash.{clash}
 use Rattle.record.specs.declared.Refusal.TheVariants.{Length}
 use Rattle.record.specs.Reader.{Test}
 use Rattle.std.specs.Prelude.{Ok, Err}
-use Rattle.record.specs.Reader.{got, refuse, judge, num_at, field, text}
+use Rattle.record.specs.Reader.{Res, got, fault, Reader, then, ◌>>=◌, refuse, judge, num_at, field, text}
 
 -- n bytes at a place hold v, and x was read up to p
 pub record Told {A : Type 0} (test : A → Test) (s : List ℕ) (at n : ℕ) (v x : A) (p : ℕ) : Type 0 where
@@ -45,3 +46,22 @@ pub text_tells :
     Told test s at n (take n (drop at s)) x p
 unfolding text
 text_tells n test s at x p e = part_tells test s at n (take n (drop at s)) x p e
+
+-- ---- one reader after the other
+-- f's reader gives y behind what r gives
+pub record Bound {A B : Type 0} (r : Reader A) (f : A → Reader B) (s : List ℕ) (at : ℕ) (y : B) (p : ℕ) : Type 0 where
+  pub value : A
+  pub place : ℕ
+  pub first : r s at ≡ got value place
+  pub second : f value s place ≡ got y p
+
+pub bind_got :
+    {A B : Type 0} (r : Reader A) (f : A → Reader B) (s : List ℕ) (at : ℕ) (y : B) (p : ℕ) →
+    (r >>= f) s at ≡ got y p →
+    Bound r f s at y p
+unfolding ◌>>=◌
+bind_got {A} {B} r f s at y p e = go (r s at) refl e
+  where
+    go : (v : Res A) → r s at ≡ v → then v (λ x p. f x s p) ≡ got y p → Bound r f s at y p
+    go (got x q) k e = record { value = x; place = q; first = k; second = e }
+    go (fault a b) k e = clash (cc)

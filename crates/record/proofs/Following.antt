@@ -14,7 +14,6 @@ use Rattle.record.specs.declared.Refusal.TheVariants.{Length}
 use Rattle.record.specs.Reader.{Test}
 use Rattle.record.specs.declared.Fault.{Fault}
 use Rattle.std.specs.Prelude.{Result, Ok, Err}
-use Rattle.std.specs.Result.{IsErrAnd}
 use Rattle.record.specs.declared.Shape.{Shape}
 use Rattle.record.specs.Reader.{Res, got, fault, Reader, then, refuse, judge, give, here, ◌>>=◌, num_at, field, if_there, times}
 use Rattle.record.specs.Record.{Instr, Placed, nm}
@@ -23,11 +22,8 @@ use Rattle.record.specs.Tests.{any, below}
 use Rattle.record.specs.Read.{name_index, operands}
 use Rattle.record.specs.Answer.{fault_at, verdict}
 use Rattle.record.proofs.Tests.{and_left, and_right}
-
--- ---- what `?` hands on: the error itself
-pub handed_on : {A E : Type 0} (r : Result A E) (f : E) → IsErrAnd r (λ e. e ≡ f) → r ≡ Err f
-handed_on (Ok x) f h = absurd h
-handed_on (Err e) f h = ap Err h
+-- what `?` hands on: the error itself
+pub use Rattle.std.proofs.result.Match.{err_is as handed_on}
 
 -- ---- a verdict, back to what was read
 pub verdict_got : {A : Type 0} (z : Res A) (q : ℕ) → verdict z ≡ Ok q → (x : A) × (z ≡ got x q)

@@ -1,6 +1,6 @@
 -- What every value satisfies that a reader gives from given bytes: the property `Gives` of readers, combinator by combinator.
 -- A field's number passes the field's test and, where the bytes are bytes, is below 256 to the power of the field's width.
-use Prim.Native.Nat.{ℕ, zero, suc, ◌+◌, ◌*◌, ◌^◌, ◌<◌, ◌≤◌}
+use Prim.Native.Nat.{ℕ, zero, suc, ◌+◌, ◌-◌, ◌*◌, ◌^◌, ◌<◌, ◌≤◌}
 use mathlib.Core.Path.{◌≡◌, refl, sym, ap, subst, ◌∙◌}
 use mathlib.Core.List.{List, [], ◌∷◌, map}
 use mathlib.Core.Bool.{Bool, true, false}
@@ -8,13 +8,12 @@ use native.Mathlib.Omega.{arith}
 use native.Mathlib.Nat.{mul-le-mul_right}
 use lib.ListN.{length, get_or, take, drop, length-drop, length-map}
 use lib.Seq.{length-take-le}
-use Rattle.arith.proofs.Clash.{clash}
 use Rattle.record.specs.Reader.{Test}
 use Rattle.std.specs.Prelude.{Ok}
 use Rattle.record.specs.Record.{Bytes}
-use Rattle.record.specs.Reader.{Res, got, fault, Reader, then, give, ◌>>=◌, here, num_at, field, text, if_there, times}
+use Rattle.record.specs.Reader.{got, Reader, give, ◌>>=◌, here, num_at, field, text, if_there, times}
 use Rattle.record.specs.Good.{There, Each}
-use Rattle.record.proofs.Fields.{field_tells, text_tells}
+use Rattle.record.proofs.Fields.{Told, field_tells, text_tells, bind_got}
 
 -- whatever r gives from s satisfies P
 pub record Gives (s : List ℕ) {A : Type 0} (r : Reader A) (P : A → Type 0) : Type 0 where
@@ -46,19 +45,26 @@ num_at_below s h at (suc (suc w)) =
     omega (arith, num_at_below s h (at + 1) (suc w))
 
 module _ {s : List ℕ} where
+  -- v: what stands at a place in n bytes; what is known of it is known of what the reader gives
+  told_gives :
+      {A : Type 0} {r : Reader A} (test : A → Test) (n : ℕ) (v : ℕ → A) (P : A → Type 0) →
+      ((at : ℕ) (x : A) (p : ℕ) → r s at ≡ got x p → Told test s at n (v at) x p) →
+      ((at : ℕ) → n ≤ length s - at → test (v at) ≡ Ok tt → P (v at)) →
+      Gives s r P
+  told_gives test n v P tells told =
+      record {
+        gives =
+            λ at x p e.
+            let t = tells at x p e in
+            subst P (sym t.value) (told at t.room (ap test (sym t.value) ∙ t.passes));
+      }
+
   -- ---- fields
-  -- what is known of a field's number by its place is known of what the field gives
   field_told :
       (w : ℕ) (test : ℕ → Test) (P : ℕ → Type 0) →
       ((at : ℕ) → test (num_at s at w) ≡ Ok tt → P (num_at s at w)) →
       Gives s (field w test) P
-  field_told w test P told =
-      record {
-        gives =
-            λ at x p e.
-            let t = field_tells w test s at x p e in
-            subst P (sym t.value) (told at (ap test (sym t.value) ∙ t.passes));
-      }
+  field_told w test P told = told_gives test w (λ at. num_at s at w) P (field_tells w test s) (λ at r h. told at h)
 
   pub field_gives : (w : ℕ) (test : ℕ → Test) → Gives s (field w test) (λ x. test x ≡ Ok tt)
   field_gives w test = field_told w test (λ x. test x ≡ Ok tt) (λ at h. h)
@@ -72,13 +78,8 @@ module _ {s : List ℕ} where
       ((at : ℕ) → length (take n (drop at s)) ≡ n → test (take n (drop at s)) ≡ Ok tt → P (take n (drop at s))) →
       Gives s (text n test) P
   text_told n test P told =
-      record {
-        gives =
-            λ at x p e.
-            let t = text_tells n test s at x p e in
-            let l : length (take n (drop at s)) ≡ n = length-take-le n (drop at s) (omega (arith, t.room, length-drop at s)) in
-            subst P (sym t.value) (told at l (ap test (sym t.value) ∙ t.passes));
-      }
+      told_gives test n (λ at. take n (drop at s)) P (text_tells n test s)
+      (λ at r h. told at (length-take-le n (drop at s) (omega (arith, r, length-drop at s))) h)
 
   pub text_gives : (n : ℕ) (test : List ℕ → Test) → Gives s (text n test) (λ t. (length t ≡ n) × (test t ≡ Ok tt))
   text_gives n test = text_told n test (λ t. (length t ≡ n) × (test t ≡ Ok tt)) (λ at l h. (l, h))
@@ -99,12 +100,12 @@ module _ {s : List ℕ} where
       Gives s r P →
       ((x : A) → P x → Gives s (f x) Q) →
       Gives s (r >>= f) Q
-  unfolding ◌>>=◌
-  bind_gives {A} {B} {r} f P {Q} d e = record { gives = λ at y p h. go at (r s at) refl y p h }
-    where
-      go : (at : ℕ) (v : Res A) → r s at ≡ v → (y : B) (p : ℕ) → then v (λ x p. f x s p) ≡ got y p → Q y
-      go at (got x q) k y p h = (e x (d.gives at x q k)).gives q y p h
-      go at (fault a b) k y p h = clash (cc)
+  bind_gives {A} {B} {r} f P {Q} d e =
+      record {
+        gives = λ at y p h.
+            let k = bind_got r f s at y p h in
+            (e k.value (d.gives at k.value k.place k.first)).gives k.place y p k.second;
+      }
 
   pub here_gives : {B : Type 0} (f : ℕ → Reader B) {Q : B → Type 0} → ((at : ℕ) → Gives s (f at) Q) → Gives s (here >>= f) Q
   unfolding ◌>>=◌ here

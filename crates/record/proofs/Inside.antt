@@ -1,18 +1,17 @@
 -- The names of a record that is read without a fault, and B behind them, lie inside it.
 use Prim.Native.Nat.{ℕ, ◌+◌, ◌<◌, ◌≤◌}
-use mathlib.Core.Path.{◌≡◌, refl, sym, ◌∙◌}
+use mathlib.Core.Path.{◌≡◌, sym, ◌∙◌}
 use mathlib.Core.List.{List, []}
 use native.Mathlib.Omega.{arith}
 use lib.ListN.{length}
-use Rattle.arith.proofs.Clash.{clash}
 use Rattle.record.specs.declared.Limits.{Limits}
 use Rattle.record.specs.Reader.{Test}
 use Rattle.record.specs.Record.{Placed, Record, most_args, most_blocks}
-use Rattle.record.specs.Reader.{Res, got, fault, Reader, then, ◌>>=◌, num_at, field}
+use Rattle.record.specs.Reader.{got, Reader, ◌>>=◌, num_at, field}
 use Rattle.record.specs.Tests.{at_most, version_test, names_test}
-use Rattle.record.specs.Read.{names, contents, read}
+use Rattle.record.specs.Read.{contents, read}
 use Rattle.record.specs.Decode.{names_count, names_end}
-use Rattle.record.proofs.Fields.{field_tells}
+use Rattle.record.proofs.Fields.{field_tells, bind_got}
 use Rattle.record.proofs.Decode.{Decodes, field_decodes, names_decode, length_decodes}
 
 -- if the reader passes, s has at least k bytes
@@ -24,22 +23,17 @@ field_reaches w test s at h = record { told = λ y q e. omega (arith, h, (field_
 
 module _ {A B : Type 0} {r : Reader A} (f : A → Reader B) {s : List ℕ} {at k : ℕ} where
   first_reaches : Reaches r s at k → Reaches (r >>= f) s at k
-  unfolding ◌>>=◌
-  first_reaches h = record { told = λ z o e. go (r s at) refl z o e }
-    where
-      go : (v : Res A) → r s at ≡ v → (z : B) (o : ℕ) → then v (λ x p. f x s p) ≡ got z o → k ≤ length s
-      go (got x p) e z o d = h.told x p e
-      go (fault a b) e z o d = clash (cc)
+  first_reaches h =
+      record { told = λ z o e. let b = bind_got r f s at z o e in h.told b.value b.place b.first }
 
   then_reaches : {x : A} {p : ℕ} → Decodes r s at x p → Reaches (f x) s p k → Reaches (r >>= f) s at k
-  unfolding ◌>>=◌
-  then_reaches {x} {p} d h = record { told = λ z o e. go (r s at) refl z o e }
-    where
-      go : (v : Res A) → r s at ≡ v → (z : B) (o : ℕ) → then v (λ x p. f x s p) ≡ got z o → k ≤ length s
-      go (got y q) e z o g =
-          let t : (y ≡ x) × (q ≡ p) = d.told y q e in
-          h.told z o (sym (λ i. f (t.0 i) s (t.1 i)) ∙ g)
-      go (fault a b) e z o g = clash (cc)
+  then_reaches {x} {p} d h =
+      record {
+        told = λ z o e.
+            let b = bind_got r f s at z o e in
+            let t : (b.value ≡ x) × (b.place ≡ p) = d.told b.value b.place b.first in
+            h.told z o (sym (λ i. f (t.0 i) s (t.1 i)) ∙ b.second);
+      }
 
 contents_reach : (lim : Limits) (s : List ℕ) → Reaches (contents lim) s 4 (names_end s + 2)
 unfolding contents names_end

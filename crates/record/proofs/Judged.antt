@@ -3,7 +3,6 @@ use Prim.Native.Nat.{ℕ}
 use mathlib.Core.Path.{◌≡◌, refl, ap, ◌∙◌}
 use mathlib.Core.List.{List}
 use Rattle.arith.proofs.Clash.{clash}
-use Rattle.record.specs.declared.Refusal.{Refusal}
 use Rattle.record.specs.declared.Fault.{Fault}
 use Rattle.std.specs.Prelude.{Ok, Err}
 use Rattle.record.specs.Record.{Placed, Record, limits}

@@ -13,7 +13,7 @@ use Rattle.record.specs.Reader.{Test}
 use Rattle.record.specs.Record.{nm, no_lit, Placed, Record, plain_block, plain, most_args, most_blocks, id_bytes, limits}
 use Rattle.record.specs.Shape.{targets, shape_of}
 use Rattle.record.specs.Tests.{any, at_most, below, length_test, version_test, names_test, type_test, text_length_test, text_test, saves_test, code_test, count_test, literal_test}
-use Rattle.record.specs.Reader.{got, Reader, give, field, text, if_there, times}
+use Rattle.record.specs.Reader.{got, Reader, give, field, if_there, times}
 use Rattle.record.specs.Read.{name_index, literal, arguments, operands, instr, block, name, names, length_field, end, contents, read}
 use Rattle.record.specs.Write.{instr_bytes, block_bytes, name_bytes, content_bytes, bytes}
 use Rattle.record.proofs.Fields.{field_tells}

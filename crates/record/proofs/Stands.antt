@@ -7,22 +7,21 @@ use mathlib.Core.Bool.{Bool, true, false}
 use native.Mathlib.Omega.{arith}
 use native.Mathlib.Nat.{add-zero, div-add-mod'}
 use lib.ListN.{length, get_or, take, drop, length-append, length-drop}
-use lib.Seq.{get_or-drop, drop-drop, drop-append_seam, take-append_seam}
+use lib.Seq.{get_or-drop, drop-drop, take-append_seam}
 use borrow.Author.Tests.{le-ltb}
 use Rattle.record.specs.Reader.{Test}
 use Rattle.std.specs.Prelude.{Ok}
 use Rattle.record.specs.Reader.{Res, got, Reader, then, give, ◌>>=◌, here, num_at, field, text, if_there, times}
 use Rattle.record.specs.Write.{be, join, when}
 use Rattle.record.specs.Good.{There, Each}
+-- what stands behind what stands at a place
+pub use Rattle.std.proofs.CharBoundary.{drop_past_prefix as past}
 
 -- wherever bs stands at the place, the reader gives x and ends behind bs
 pub record Reads {A : Type 0} (r : Reader A) (at : ℕ) (x : A) (bs : List ℕ) : Type 0 where
   pub reads : (s rest : List ℕ) → drop at s ≡ bs ++ rest → r s at ≡ got x (at + length bs)
 
 -- ---- bytes that stand at a place
-pub past : (s a b : List ℕ) (at : ℕ) → drop at s ≡ a ++ b → drop (at + length a) s ≡ b
-past s a b at e = sym (drop-drop (length a) at s) ∙ ap (drop (length a)) e ∙ drop-append_seam a b
-
 first_at : (s t : List ℕ) (at b : ℕ) → drop at s ≡ b ∷ t → get_or s at 0 ≡ b
 first_at s t at b e =
     ap (λ (n : ℕ). get_or s n 0) (sym (add-zero at)) ∙ sym (get_or-drop at s 0 0) ∙ ap (λ (l : List ℕ). get_or l 0 0) e

@@ -1,21 +1,22 @@
 -- What a reader gives and the bytes that it takes for it: the property `Takes` of readers, combinator by combinator.
 -- A field takes the bytes of the number that it gives, where the bytes are bytes. Rests on the laws of lists and of division.
-use Prim.Native.Nat.{ℕ, zero, suc, ◌+◌, ◌-◌, ◌*◌, ◌/◌, ◌%◌, ◌^◌, ◌<◌, ◌≤◌}
+use Prim.Native.Nat.{ℕ, zero, suc, ◌+◌, ◌-◌, ◌^◌, ◌<◌, ◌≤◌}
 use mathlib.Core.Path.{◌≡◌, refl, sym, ap, ◌∙◌, subst}
 use mathlib.Core.List.{List, [], ◌∷◌, ◌++◌, map, append_assoc, append-nil}
 use mathlib.Core.Bool.{Bool, true, false}
 use native.Mathlib.Omega.{arith}
-use native.Mathlib.Nat.{add-zero, mod-eq_of_lt, div-eq_of_lt, mul-add-div_right, mul-add-mod_self_right}
+use native.Mathlib.Nat.{add-zero}
+use Rattle.std.proofs.lemmas.Nat.{div-mul-add, mod-mul-add}
 use lib.ListN.{length, get_or, take, drop, take-append-drop, length-append, length-drop}
 use lib.Seq.{drop-cons, drop-drop, length-take-le}
-use Rattle.arith.proofs.Clash.{clash}
 use Rattle.record.specs.Reader.{Test}
 use Rattle.record.specs.Record.{Bytes}
-use Rattle.record.specs.Reader.{Res, got, fault, Reader, then, give, ◌>>=◌, here, num_at, field, text, if_there, times}
+use Rattle.record.specs.Reader.{got, Reader, give, ◌>>=◌, here, num_at, field, text, if_there, times}
 use Rattle.record.specs.Write.{be, join, when}
 use Rattle.record.proofs.Gives.{num_at_below}
 use Rattle.record.proofs.Stands.{length_be}
 use Rattle.record.proofs.Fields.{field_tells, text_tells}
+pub use Rattle.record.proofs.Fields.{bind_got}
 
 -- the bytes from `at` to p satisfy P
 pub record Between (s : List ℕ) (at p : ℕ) (P : List ℕ → Type 0) : Type 0 where
@@ -29,14 +30,6 @@ pub record Takes (s : List ℕ) {A : Type 0} (r : Reader A) (P : A → List ℕ 
   pub takes : (at : ℕ) (x : A) (p : ℕ) → r s at ≡ got x p → Between s at p (P x)
 
 -- ---- numbers
--- b in front of a number below m
-module _ (m b x : ℕ) (h : x < m) where
-  leading : (b * m + x) / m ≡ b
-  leading = mul-add-div_right (omega arith) b x ∙ ap (λ (n : ℕ). b + n) (div-eq_of_lt h) ∙ add-zero b
-
-  trailing : (b * m + x) % m ≡ x
-  trailing = mul-add-mod_self_right b m x ∙ mod-eq_of_lt h
-
 -- the number of w bytes is written as those bytes
 pub be_num : (s : List ℕ) → Bytes s → (at w : ℕ) → w ≤ length s - at → drop at s ≡ be w (num_at s at w) ++ drop (at + w) s
 unfolding be
@@ -55,26 +48,7 @@ be_num s h at (suc (suc w)) k =
     drop-cons s at 0 (omega arith)
     ∙ ap (λ (n : ℕ). b ∷ drop n s) one
     ∙ ap (◌∷◌ b) (next ∙ ap (λ (n : ℕ). be (suc w) x ++ drop n s) two)
-    ∙ λ i. sym (leading m b x l) i ∷ be (suc w) (sym (trailing m b x l) i) ++ drop (at + suc (suc w)) s
-
--- ---- one reader after the other
--- f's reader gives y behind what r gives
-pub record Bound {A B : Type 0} (r : Reader A) (f : A → Reader B) (s : List ℕ) (at : ℕ) (y : B) (p : ℕ) : Type 0 where
-  pub value : A
-  pub place : ℕ
-  pub first : r s at ≡ got value place
-  pub second : f value s place ≡ got y p
-
-pub bind_got :
-    {A B : Type 0} (r : Reader A) (f : A → Reader B) (s : List ℕ) (at : ℕ) (y : B) (p : ℕ) →
-    (r >>= f) s at ≡ got y p →
-    Bound r f s at y p
-unfolding ◌>>=◌
-bind_got {A} {B} r f s at y p e = go (r s at) refl e
-  where
-    go : (v : Res A) → r s at ≡ v → then v (λ x p. f x s p) ≡ got y p → Bound r f s at y p
-    go (got x q) k e = record { value = x; place = q; first = k; second = e }
-    go (fault a b) k e = clash (cc)
+    ∙ λ i. sym (div-mul-add b m x l) i ∷ be (suc w) (sym (mod-mul-add b m x l) i) ++ drop (at + suc (suc w)) s
 
 module _ {s : List ℕ} where
   -- ---- fields

@@ -15,19 +15,11 @@ use Rattle.std.specs.Prelude.{Ok, Err}
 use Rattle.record.specs.Shape.{shape_of}
 use Rattle.record.specs.Text.{same_bytes}
 use Rattle.record.specs.Tests.{need, and_then, at_most, below, names_test, code_test, count_test, literal_test}
+-- the parts of an `and` that holds, and it from them
+pub use Rattle.std.specs.Cmp.{first_so as and_left, second_so as and_right}
+pub use Rattle.std.proofs.lemmas.Bool.{and_from as and_both}
 
 -- ---- conditions
-pub and_left : (a b : Bool) → (a && b) ≡ true → a ≡ true
-and_left true b e = refl
-and_left false b e = e
-
-pub and_right : (a b : Bool) → (a && b) ≡ true → b ≡ true
-and_right true b e = e
-and_right false b e = clash (cc)
-
-pub and_both : (a b : Bool) → a ≡ true → b ≡ true → (a && b) ≡ true
-and_both a b e f = rw (e, f)
-
 -- the first fails, so it is the second
 pub or_second : (a b : Bool) → (a || b) ≡ true → a ≡ false → b ≡ true
 or_second true b e f = clash (cc)

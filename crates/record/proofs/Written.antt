@@ -25,7 +25,7 @@ use Rattle.record.proofs.Gives.{each_both}
 use Rattle.record.proofs.Form.{all_below, at_known, known_below}
 
 -- ---- bytes one after the other
-append_bytes : (a b : List ℕ) → Bytes a → Bytes b → Bytes (a ++ b)
+pub append_bytes : (a b : List ℕ) → Bytes a → Bytes b → Bytes (a ++ b)
 append_bytes [] b h k = k
 append_bytes (x ∷ a) b h k = (h.0, append_bytes a b h.1 k)
 

@@ -6,6 +6,8 @@ ghost use Rattle.record.specs.Answer.{number};
 
 use arith::{One, Two};
 
+mod code;
+
 // The type bytes without a pointer, and the least of a pointer.
 pub const INT: u8 = 0x00;
 
@@ -16,6 +18,13 @@ pub const FLOAT: u8 = 0x02;
 pub const CHAR: u8 = 0x03;
 
 pub const POINTER: u8 = 0x10;
+
+// As many names, arguments and blocks as a record can have.
+pub const NAMES: usize = 256;
+
+pub const ARGS: u64 = 16;
+
+pub const BLOCKS: usize = 64;
 
 // The index of a name. Value numbers are another kind, ValNum of the crate numbering.
 #[derive(Clone, Copy, PartialEq, Eq, Debug)]
@@ -48,7 +57,7 @@ pub enum Op {
 
 // Up to eight numbers: the arguments of an instruction, or its block numbers. ArrayVec would hold them too, but is not Copy.
 // No PartialEq: what stands past the count is no part of the row.
-#[derive(Clone, Copy)]
+#[derive(Clone, Copy, Debug)]
 pub struct Row {
     pub items: [u16; 8],
     pub count: u8,
@@ -79,7 +88,7 @@ impl Row {
 }
 
 // An instruction. Parts that its operation does not have are 0, and rows are empty.
-#[derive(Clone, Copy)]
+#[derive(Clone, Copy, Debug)]
 pub struct Instruction {
     pub id: u64,
     pub op: Op,
@@ -148,6 +157,9 @@ impl From<Refusal> for u8 {
         }
     }
 }
+
+// The number of a program's own refusal, of an input that it does not take: none of check, rewrite, figures, name text and running answers so.
+pub const OWN_REFUSAL: u8 = 10;
 
 // The first fault of a record: the reason of the refusal, and the offset of the field.
 #[derive(Clone, Copy, PartialEq, Eq, Debug)]

@@ -1,6 +1,6 @@
 // Replays a list of damaged records, read from standard input: each line a record in hexadecimal, the number of check's refusal and its
 // offset, 0 0 for a record that is accepted. Writes how many answers agree and how many do not.
-// as: a number that is known to fit, or u64 and usize, which have no From; try_from would hand out an error that cannot be.
+// as: the number fits, or u64 and usize have no From; try_from would give an error that cannot happen.
 #![tactic(auto)]
 
 use record::Fault;

@@ -1,17 +1,17 @@
 // Replays records with their figures, read from standard input: each line a record in hexadecimal, a number and two values. They are 0, the
 // bytes and the saves of the rewriting of a record that is accepted, and then each block's figure; or the number and offset of a refusal,
 // and 0. Writes for how many lines figures answers so, and for how many not.
-// as: a number that is known to fit, or u64 and usize, which have no From; try_from would hand out an error that cannot be.
+// as: the number fits, or u64 and usize have no From; try_from would give an error that cannot happen.
 #![tactic(auto)]
 
 ghost use Rattle.std.specs.Prelude.{◌≤◌, length};
 
-use numbering::{FiguresError, Totals};
+use numbering::{FiguresError, Refuses, Totals};
 use replay_lines::{Cursor, Expected};
 use std::io;
 
 // What each place has at the start.
-const FILL: u16 = 61166;
+const FILL: u16 = 0xEEEE;
 
 // What a line says of the answer: its number, the values that go with it, and each block's figure.
 #[derive(Clone, Copy, PartialEq, Eq, Debug)]
@@ -24,12 +24,12 @@ pub struct Answer<'a> {
 
 impl Answer<'_> {
     // Whether figures answered so.
-    pub fn is(self, a: Result<Totals, FiguresError>) -> bool {
+    fn is(self, a: Result<Totals, FiguresError>) -> bool {
         match a {
             Ok(t) => {
                 self.number == 0 && self.value == t.bytes as u64 && self.saves == t.saves as u64
             }
-            Err(e) => self.number == u64::from(e.number()) && self.value == e.value() as u64,
+            Err(e) => replay_lines::is_refusal(e, self.number, self.value),
         }
     }
 }
@@ -77,7 +77,7 @@ pub fn numbers<'a>(line: &mut Cursor<'_>, places: &'a mut [u16]) -> &'a [u16]
 
 // Reads a line, and returns whether figures answers as it says; number 0 stands for a record that is accepted.
 pub fn figures_line(line: &mut Cursor<'_>) -> bool {
-    let mut input = [0u8; 4096];
+    let mut input = [0u8; replay_lines::RECORD];
     let mut places = [0u16; Answer::MOST];
     let record = line.bytes(&mut input);
     let number = line.number();

@@ -2,13 +2,23 @@
 // the lines that agree.
 #![tactic(auto)]
 
-ghost use Rattle.std.specs.Prelude.{◌+◌, ◌≡◌, ◌<◌, ◌≤◌, true, length, IfSome};
+ghost use Rattle.std.specs.Prelude.{ℕ, List, ◌+◌, ◌≡◌, ◌==◌, ◌&&◌, ◌≢◌, ◌∷◌, ◌<◌, ◌≤◌, true, length, get_or, IfSome, MatchBool, OnOk};
+ghost use Rattle.std.specs.Io.KnownBytes.{Appends};
+ghost use Rattle.replay_lines.specs.Counts.{counts_line};
+ghost use Rattle.replay_lines.specs.Decimal.{decimal, behind_digits};
+ghost use Rattle.replay_lines.specs.Filled.{holds_before_fill};
 
+use numbering::Refuses;
 use std::io::{Read, Write};
 use std::{fmt, io};
 
 // The length of the longest list, in bytes.
 pub const LONGEST: usize = 524288;
+
+// The bytes of the longest record whose rewriting, names or figures a list has, and of the longest rewriting.
+pub const RECORD: usize = 4096;
+
+pub const REWRITING: usize = 8192;
 
 // What is left to read of a list, or of a line.
 #[derive(Clone, Copy, PartialEq, Eq, Debug)]
@@ -26,8 +36,11 @@ impl<'a> Cursor<'a> {
         Some(Cursor { rest: line })
     }
 
-    // Reads this byte, if it comes next, and returns whether it does.
-    pub fn skip(&mut self, c: u8) -> bool {
+    // Reads this byte, if it comes next, and returns whether it does; nothing is read where it does not.
+    pub fn skip(&mut self, c: u8) -> bool
+        ensures { MatchBool result (self.old.rest.now ≡ c ∷ self.new.rest.now)
+            ((self.new ≡ self.old) × ((rest : List ℕ) → self.old.rest.now ≢ c ∷ rest)) }
+    {
         match self.rest.split_first() {
             Some((first, rest)) if *first == c => {
                 self.rest = rest;
@@ -38,7 +51,10 @@ impl<'a> Cursor<'a> {
     }
 
     // Reads the decimal number that comes next, or behind a space; its last 64 bits where it has more.
-    pub fn number(&mut self) -> u64 {
+    pub fn number(&mut self) -> u64
+        ensures value { result ≡ decimal self.old.rest.now }
+        ensures rest { self.new.rest.now ≡ behind_digits self.old.rest.now }
+    {
         self.skip(b' ');
         let mut value = 0u64;
         // Where the digits end is seen as they are read: a `for` would need another cursor.
@@ -100,13 +116,13 @@ pub fn hex_digit(c: u8) -> Option<u8>
 }
 
 // Whether these stand first, and beyond them nothing but `fill`.
-pub fn holds_before_fill<T: Copy + PartialEq>(all: &[T], first: &[T], fill: T) -> bool {
-    all.strip_prefix(first)
-        .is_some_and(|rest| rest.iter().all(|x| *x == fill))
+pub fn holds_before_fill<T: Copy + PartialEq>(all: &[T], first: &[T], fill: T) -> bool
+    ensures { result ≡ holds_before_fill T.eq all.now first.now fill }
+{
+    all.starts_with(first) && all[first.len()..].iter().all(|x| *x == fill)
 }
 
-// Whether this answers as it should where so many of all places are lent to it, which hold `fill`, and then these stand first in them, no
-// other place changed.
+// Lends the first `count` of `all`, which holds only `fill`, to `answers`; true if that is true and then `all` is `first` followed by `fill`.
 pub fn leaves<T: Copy + PartialEq, F: FnOnce(&mut [T]) -> bool>(
     all: &mut [T],
     count: usize,
@@ -115,7 +131,8 @@ pub fn leaves<T: Copy + PartialEq, F: FnOnce(&mut [T]) -> bool>(
     answers: F,
 ) -> bool
     requires { F.IsAlwaysCallable answers }
-    ensures { result ≡ true → count ≤ length all.old }
+    ensures lent { result ≡ true → count ≤ length all.old }
+    ensures left { result ≡ true → holds_before_fill T.eq all.new first.now fill ≡ true }
 {
     if count > all.len() {
         return false;
@@ -123,25 +140,35 @@ pub fn leaves<T: Copy + PartialEq, F: FnOnce(&mut [T]) -> bool>(
     answers(&mut all[..count]) && holds_before_fill(all, first, fill)
 }
 
-// What a line says of the answer for a record, which is 0 or the number of a refusal, and of what is then in the places lent.
+// Whether a refusal has this number and this value.
+pub fn is_refusal<E: Refuses>(e: E, number: u64, value: u64) -> bool
+    ensures { result ≡ (((E.answer e).number == number) && (get_or (E.answer e).values 0 0 == value)) }
+{
+    // as: u64 and usize have no From; try_from would give an error that cannot happen.
+    u64::from(e.number()) == number && e.value() as u64 == value
+}
+
+// What a line says of the answer for a record, and of the places lent for it. No contracts: a line may say anything, and a replay finds out
+// whether it is true.
 pub trait Expected: Copy {
-    // More places than an answer needs.
+    // The most places that are lent: more than an answer needs.
     const MOST: usize;
 
+    // The number of the answer: 0, or that of a refusal.
     fn number(self) -> u64;
 
-    // Whether it is answered so with so many places lent, and these hold what they should.
+    // Whether the record is answered so with `count` places lent, and these then hold what the line says.
     fn comes(self, record: &[u8], count: usize) -> bool;
 
-    // Whether a record that is accepted is.
+    // Whether the record is accepted and answered so, with each count of places that makes a difference.
     fn comes_accepted(self, record: &[u8]) -> bool;
 
-    // Whether a refused one is: with many places, and with none.
+    // Whether the record is refused so, with many places and with none.
     fn comes_refused(self, record: &[u8]) -> bool {
         self.comes(record, Self::MOST) && self.comes(record, 0)
     }
 
-    // Whether a record is, accepted where the number is 0.
+    // Whether the line is true of the record.
     fn agrees(self, record: &[u8]) -> bool {
         if self.number() == 0 {
             self.comes_accepted(record)
@@ -159,6 +186,11 @@ pub struct Counts {
 }
 
 impl fmt::Display for Counts {
+    ghost use Rattle.std.specs.Prelude.{Some};
+    ghost use Rattle.replay_lines.specs.Counts.{counts_text};
+
+    ghost output = { λ counts. Some (counts_text counts.same counts.other) };
+
     fn fmt<W: fmt::Write>(&self, f: &mut fmt::Formatter<W>) -> fmt::Result {
         let same = self.same;
         let other = self.other;
@@ -185,8 +217,8 @@ pub fn replay<F: Fn(&mut Cursor<'_>) -> bool>(text: &[u8], agrees: F) -> Counts
     Counts { same, other }
 }
 
-// The list that is read, told in what is written: how many lines agree, and how many do not. It is read into an array that is lent, since the
-// check cannot go through the making of one so long in a function with bounds.
+// The list that is read, told in what is written: how many lines agree, and how many do not. Which these are no clause says, since `agrees` may
+// be any function. It is read into an array that is lent, since the check cannot go through the making of one so long in a function with bounds.
 pub fn tell<R: Read, W: Write, F: Fn(&mut Cursor<'_>) -> bool>(
     reader: &mut R,
     writer: &mut W,
@@ -194,6 +226,8 @@ pub fn tell<R: Read, W: Write, F: Fn(&mut Cursor<'_>) -> bool>(
     agrees: F,
 ) -> io::Result<()>
     requires { F.IsAlwaysCallable agrees }
+    ensures { OnOk result ((same : ℕ) × (other : ℕ) × (same + other ≤ length text.old) ×
+        Appends (W.contents writer.old) (W.contents writer.new) (counts_line same other)) }
 {
     let list: &mut [u8] = text;
     let n = read_input::read_full(reader, list)?;

@@ -1,7 +1,7 @@
 // Replays name text over a list that is read from standard input: each line an input and a rewriting in hexadecimal and an index; then the
 // number and offset of the refusal, 0 0 for a text; 0 for a part of the input or 1 for one of the rewriting, its start, its length and its
 // bytes. Writes for how many lines name text tells so, and for how many not.
-// as: a number that is known to fit, or u64 and usize, which have no From; try_from would hand out an error that cannot be.
+// as: the number fits, or u64 and usize have no From; try_from would give an error that cannot happen.
 #![tactic(auto)]
 
 use name_text::Place;
@@ -22,15 +22,15 @@ pub struct Told<'a> {
 
 impl Told<'_> {
     // Whether name text answered with this number and offset.
-    pub fn is(self, a: Result<(), NameError>) -> bool {
+    fn is(self, a: Result<(), NameError>) -> bool {
         match a {
             Ok(()) => self.number == 0 && self.offset == 0,
-            Err(e) => self.number == u64::from(e.number()) && self.offset == e.value() as u64,
+            Err(e) => replay_lines::is_refusal(e, self.number, self.offset),
         }
     }
 
     // Whether the part lies where the line says; that of a refusal is the empty one at the input's start.
-    pub fn lies(self, found: Result<Place, NameError>) -> bool {
+    fn lies(self, found: Result<Place, NameError>) -> bool {
         let empty = Place {
             rewriting: false,
             from: 0,
@@ -45,7 +45,7 @@ impl Told<'_> {
     }
 
     // Whether all of name text tells so: the part and its answer, the answer alone, and the bytes.
-    pub fn comes(self, input: &[u8], rewriting: &[u8], index: usize) -> bool {
+    fn comes(self, input: &[u8], rewriting: &[u8], index: usize) -> bool {
         let found = name_text::part_of(input, rewriting, index);
         self.lies(found)
             && self.is(found.map(|_| ()))
@@ -56,12 +56,12 @@ impl Told<'_> {
 
 // Reads a line, and returns whether name text tells what it says.
 pub fn name_text_line(line: &mut Cursor<'_>) -> bool {
-    let mut first = [0u8; 4096];
-    let mut second = [0u8; 8192];
-    let mut third = [0u8; 256];
-    let input = line.bytes(&mut first);
+    let mut input = [0u8; replay_lines::RECORD];
+    let mut rewriting = [0u8; replay_lines::REWRITING];
+    let mut bytes = [0u8; 256];
+    let input = line.bytes(&mut input);
     line.skip(b' ');
-    let rewriting = line.bytes(&mut second);
+    let rewriting = line.bytes(&mut rewriting);
     let index = line.number();
     let number = line.number();
     let offset = line.number();
@@ -69,7 +69,7 @@ pub fn name_text_line(line: &mut Cursor<'_>) -> bool {
     let from = line.number();
     let count = line.number();
     line.skip(b' ');
-    let bytes = line.bytes(&mut third);
+    let bytes = line.bytes(&mut bytes);
     let told = Told {
         number,
         offset,

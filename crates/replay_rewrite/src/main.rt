@@ -1,10 +1,10 @@
 // Replays records with their rewritings, read from standard input: each line a record in hexadecimal, a number, a value and bytes. They are
 // 0, the saves and the rewriting of a record that is accepted; or the number and offset of a refusal, and no bytes.
 // Writes for how many lines rewrite answers so, and for how many not.
-// as: a number that is known to fit, or u64 and usize, which have no From; try_from would hand out an error that cannot be.
+// as: the number fits, or u64 and usize have no From; try_from would give an error that cannot happen.
 #![tactic(auto)]
 
-use numbering::{RewriteError, Totals};
+use numbering::{Refuses, RewriteError, Totals};
 use replay_lines::{Cursor, Expected};
 use std::io;
 
@@ -21,19 +21,19 @@ pub struct Answer<'a> {
 
 impl Answer<'_> {
     // Whether rewrite answered with this number and value.
-    pub fn is(self, a: Result<Totals, RewriteError>) -> bool {
+    fn is(self, a: Result<Totals, RewriteError>) -> bool {
         match a {
             Ok(t) => {
                 self.number == 0 && self.value == t.saves as u64 && self.bytes.len() == t.bytes
             }
-            Err(e) => self.number == u64::from(e.number()) && self.value == e.value() as u64,
+            Err(e) => replay_lines::is_refusal(e, self.number, self.value),
         }
     }
 }
 
 impl Expected for Answer<'_> {
     // The length of the longest output.
-    const MOST: usize = 8192;
+    const MOST: usize = replay_lines::REWRITING;
 
     fn number(self) -> u64 {
         self.number
@@ -64,7 +64,7 @@ impl Expected for Answer<'_> {
 
 // Reads a line, and returns whether rewrite answers as it says; number 0 stands for a record that is accepted.
 pub fn rewrite_line(line: &mut Cursor<'_>) -> bool {
-    let mut input = [0u8; 4096];
+    let mut input = [0u8; replay_lines::RECORD];
     let mut output = [0u8; Answer::MOST];
     let record = line.bytes(&mut input);
     let number = line.number();

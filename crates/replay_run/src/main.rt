@@ -1,7 +1,7 @@
 // Replays runs of records, read from standard input: each line a record, a store and a list of answers in hexadecimal, `-` for one that is
 // empty, the limit, the number and the five values of the answer, then the events and the final store in hexadecimal, `-` for none. Writes
 // for how many lines the engine answers so, and leaves in what is lent what it should, and for how many not.
-// as: a number that is known to fit, or u64 and usize, which have no From; try_from would hand out an error that cannot be.
+// as: the number fits, or u64 and usize have no From; try_from would give an error that cannot happen.
 #![tactic(auto)]
 
 ghost use Rattle.std.specs.Prelude.{◌≤◌, length};
@@ -10,10 +10,15 @@ use replay_lines::Cursor;
 use running::{Run, RunError};
 use std::io;
 
-// The most bytes of the events and of a store, and as many more as are lent at most, with as many behind them that are not.
-const EVENTS: usize = 16390;
+// The most bytes of the events and of a store in a list.
+const MOST_EVENTS: usize = 16384;
 
-const STORE: usize = 4363;
+const MOST_STORE: usize = 4357;
+
+// Three more are lent at most, and three behind them are not.
+const EVENTS: usize = MOST_EVENTS + 6;
+
+const STORE: usize = MOST_STORE + 6;
 
 // What each byte has at the start.
 const FILL: u8 = 0xEE;
@@ -27,7 +32,8 @@ pub struct Case<'a> {
     pub limit: u64,
 }
 
-// What a line says of the answer: its number and values, the events and the final store.
+// What a line says of the answer: its number and values, the events and the final store. No replay_lines::Expected: it is of a case and not of a
+// record alone, and two buffers are lent.
 #[derive(Clone, Copy, PartialEq, Eq, Debug)]
 pub struct Answer<'a> {
     pub number: u64,
@@ -38,14 +44,14 @@ pub struct Answer<'a> {
 
 impl Answer<'_> {
     // Whether the engine answered with this number and these values.
-    pub fn is(self, a: Result<Run, RunError>) -> bool {
+    fn is(self, a: Result<Run, RunError>) -> bool {
         let n = engine_answer::in_numbers(a);
         u64::from(n.number) == self.number && n.values == self.values
     }
 
     // Whether the engine, with so many bytes lent for the events and for the store, answers so and puts these events and this store there, no
     // other changed.
-    pub fn comes(self, case: Case<'_>, room: usize, more: usize) -> bool {
+    fn comes(self, case: Case<'_>, room: usize, more: usize) -> bool {
         let mut out = [FILL; EVENTS];
         let mut last = [FILL; STORE];
         replay_lines::leaves(&mut out, room, self.events, FILL, |events| {
@@ -63,7 +69,7 @@ impl Answer<'_> {
     }
 
     // Whether it answers that there is no room and puts nothing there, with so many bytes lent where these events and this store do not fit.
-    pub fn falls_short(self, case: Case<'_>, room: usize, more: usize) -> bool {
+    fn falls_short(self, case: Case<'_>, room: usize, more: usize) -> bool {
         let e = self.events.len();
         let l = self.left.len();
         let short = Answer {
@@ -76,8 +82,8 @@ impl Answer<'_> {
     }
 
     // Whether a run that is done is answered so: with as many bytes as are needed, with three more of each, and with one too few of the one or
-    // the other.
-    pub fn comes_done(self, case: Case<'_>) -> bool {
+    // the other. There may be no events; a store has its length and version.
+    fn comes_done(self, case: Case<'_>) -> bool {
         let e = self.events.len();
         let l = self.left.len();
         e < EVENTS
@@ -85,12 +91,13 @@ impl Answer<'_> {
             && self.comes(case, e, l)
             && self.comes(case, e + 3, l + 3)
             && (e == 0 || self.falls_short(case, e - 1, l))
-            && (l > 0 && self.falls_short(case, e, l - 1))
+            && l > 0
+            && self.falls_short(case, e, l - 1)
     }
 }
 
 // Reads the bytes that come next, or behind a space, as far as the room goes; `-` stands for none.
-pub fn bytes<'a>(line: &mut Cursor<'_>, room: &'a mut [u8]) -> &'a [u8]
+fn bytes<'a>(line: &mut Cursor<'_>, room: &'a mut [u8]) -> &'a [u8]
     ensures { length result.now ≤ length room.old }
 {
     line.skip(b' ');
@@ -100,7 +107,7 @@ pub fn bytes<'a>(line: &mut Cursor<'_>, room: &'a mut [u8]) -> &'a [u8]
 }
 
 // Reads the five values of an answer.
-pub fn values(line: &mut Cursor<'_>) -> [u64; 5] {
+fn values(line: &mut Cursor<'_>) -> [u64; 5] {
     let mut each = [0; 5];
     for x in each.iter_mut() {
         *x = line.number();
@@ -110,22 +117,22 @@ pub fn values(line: &mut Cursor<'_>) -> [u64; 5] {
 
 // Reads a line, and returns whether the engine answers as it says; number 0 stands for a run that is done, and others have seven bytes of each.
 pub fn run_line(line: &mut Cursor<'_>) -> bool {
-    let mut first = [0u8; 1024];
-    let mut second = [0u8; 512];
-    let mut third = [0u8; 4096];
-    let mut fourth = [0u8; 16384];
-    let mut fifth = [0u8; 4357];
+    let mut record = [0u8; 1024];
+    let mut store = [0u8; 512];
+    let mut answers = [0u8; 4096];
+    let mut events = [0u8; MOST_EVENTS];
+    let mut left = [0u8; MOST_STORE];
     let case = Case {
-        record: bytes(line, &mut first),
-        store: bytes(line, &mut second),
-        answers: bytes(line, &mut third),
+        record: bytes(line, &mut record),
+        store: bytes(line, &mut store),
+        answers: bytes(line, &mut answers),
         limit: line.number(),
     };
     let answer = Answer {
         number: line.number(),
         values: values(line),
-        events: bytes(line, &mut fourth),
-        left: bytes(line, &mut fifth),
+        events: bytes(line, &mut events),
+        left: bytes(line, &mut left),
     };
     if answer.number == 0 {
         answer.comes_done(case)

@@ -1,13 +1,19 @@
 // What the program prints, put into a lent buffer: the rewriting's bytes, or the line of a refusal.
-// as: a number that is known to fit, or u64 and usize, which have no From; try_from would hand out an error that cannot be.
+// as: the number fits, or u64 and usize have no From; try_from would give an error that cannot happen.
 #![tactic(auto)]
 
 ghost use Rattle.std.specs.Prelude.{◌≡◌, [], ◌∷◌, ◌≤◌, length, take};
 ghost use Rattle.numbering.specs.Program.{refused_line, program_output};
 ghost use Rattle.write_bytes.specs.Put.{Wrote};
 
-// The number of the program's own refusal, of an input that is too long.
-const TOO_LONG: u8 = 10;
+use numbering::Refuses;
+use record::OWN_REFUSAL;
+
+// The bytes of the longest input that the program takes: `most_input` of numbering/specs/Program.
+pub const MOST_INPUT: usize = 8192;
+
+// The bytes of the program's buffer: `buffer_size` of numbering/specs/Program.
+pub const BUFFER: usize = 65536;
 
 // The line of a refusal, from the first byte on; how long it is. By the parts and not by write!, which hands out an error that cannot be, and
 // whose promise for a lent slice says nothing of the bytes that then stand in it.
@@ -24,11 +30,11 @@ pub fn put_refusal(out: &mut [u8], number: u8, value: usize) -> usize
 
 // All that the program does between reading and writing: what it prints of the input stands in the buffer's first bytes; how many they are.
 // The count and not the bytes themselves: of a buffer that a result is lent from, no clause says what it holds then.
-pub fn program(input: &[u8], buffer: &mut [u8; 65536]) -> usize
+pub fn program(input: &[u8], buffer: &mut [u8; BUFFER]) -> usize
     ensures { (result ≤ length buffer.new) × (take result buffer.new ≡ program_output input.now) }
 {
-    if input.len() > 8192 {
-        return put_refusal(buffer, TOO_LONG, 8192);
+    if input.len() > MOST_INPUT {
+        return put_refusal(buffer, OWN_REFUSAL, MOST_INPUT);
     }
     match rewrite::rewrite(input, buffer) {
         Ok(written) => written.bytes,

@@ -73,7 +73,7 @@ module _ {s : List ℕ} {end : ℕ} (h : Reads s end) where
       (accepted_pass s h.it h.behind h.reads))
 
 -- ---- a record whose head says F
-module _ {s types : List ℕ} {F : Layout} (h : Reads s F.end) (l : F ≡ layout_of s) (t : types ≡ types_in s) where
+module _ {s : List ℕ} {F : Layout} (h : Reads s F.end) (l : F ≡ layout_of s) where
   wide : F.width ≡ id_bytes (num_at s 4 1)
   unfolding layout_of
   wide = ap (λ (x : Layout). x.width) l
@@ -82,79 +82,80 @@ module _ {s types : List ℕ} {F : Layout} (h : Reads s F.end) (l : F ≡ layout
   unfolding layout_of
   few_arguments = ap (λ (x : Layout). x.args) l
 
-  pub named_count : F.names ≡ names_count s
+  named_count : F.names ≡ names_count s
   unfolding layout_of
   named_count = ap (λ (x : Layout). x.names) l
-
-  pub named_many : F.names ≡ length types
-  named_many = named_count ∙ sym (types_many h t)
 
   pub blocks_count : F.blocks ≡ num_at s F.end 2
   unfolding layout_of
   blocks_count = ap (λ (x : Layout). x.blocks) l ∙ ap (λ (k : ℕ). num_at s k 2) (sym h.names)
 
-  pub blocks_ask : (at : ℕ) → at ≤ longest_front → BlocksAsk F s (record { p = F.end + 2; q = at }) (record { k = 0; total = 0 }) F.blocks
-  blocks_ask at b =
-      let n : F.blocks ≤ 64 = omega (arith, blocks_count, few_blocks h) in
-      let m : F.end ≤ longest_names = h.near in
-      record {
-        width = subst IdWidth (sym wide) (id_width (num_at s 4 1));
-        names = omega (arith, named_count, few_original h);
-        arguments = omega (arith, few_arguments, few_args h);
-        made = omega (arith, n, named_count, few_original h);
-        total = omega arith;
-        reads = omega arith;
-        writes = omega arith;
-        passing =
-            subst (λ (k : ℕ). BlocksPass k (blocks_in F.width s (F.end + 2) F.blocks)) (sym named_many)
-            (blocks_pass h F.width F.blocks t wide blocks_count);
-      }
+  module _ {types : List ℕ} (t : types ≡ types_in s) where
+    pub named_many : F.names ≡ length types
+    named_many = named_count ∙ sym (types_many h t)
 
-  module _
-      {names names' each each' out out' : List ℕ} {r : Behind} (at : ℕ)
-      (done :
-      (bs : List (Block Instr)) →
-      BlocksDone F.width (record { args = F.args; types = types; blocks = bs }) s (record { p = F.end + 2; q = at }) r F.blocks
-      names names' each each' out out')
-    where
-      again_blocks : (record_in s).blocks ≡ blocks_in F.width s (F.end + 2) F.blocks
-      again_blocks = blocks_at h F.width F.blocks wide blocks_count
+    pub blocks_ask : (at : ℕ) → at ≤ longest_front → BlocksAsk F s (record { p = F.end + 2; q = at }) (record { k = 0; total = 0 }) F.blocks
+    blocks_ask at b =
+        let n : F.blocks ≤ 64 = omega (arith, blocks_count, few_blocks h) in
+        let m : F.end ≤ longest_names = h.near in
+        record {
+          width = subst IdWidth (sym wide) (id_width (num_at s 4 1));
+          names = omega (arith, named_count, few_original h);
+          arguments = omega (arith, few_arguments, few_args h);
+          made = omega (arith, n, named_count, few_original h);
+          total = omega arith;
+          reads = omega arith;
+          writes = omega arith;
+          passing =
+              subst (λ (k : ℕ). BlocksPass k (blocks_in F.width s (F.end + 2) F.blocks)) (sym named_many)
+              (blocks_pass h F.width F.blocks t wide blocks_count);
+        }
 
-      exact : BlocksDone F.width (function (record_in s)) s (record { p = F.end + 2; q = at }) r F.blocks names names' each each' out out'
-      exact =
-          let same : ◌≡◌ {A = Function} (record { args = F.args; types = types; blocks = (record_in s).blocks }) (function (record_in s)) =
-          λ i. record { args = (few_arguments ∙ sym (args_in s)) i; types = t i; blocks = (record_in s).blocks } in
-          subst
-          (λ (g : Function). BlocksDone F.width g s (record { p = F.end + 2; q = at }) r F.blocks names names' each each' out out') same
-          (done (record_in s).blocks)
+    module _
+        {names names' each each' out out' : List ℕ} {r : Behind} (at : ℕ)
+        (done :
+        (bs : List (Block Instr)) →
+        BlocksDone F.width (record { args = F.args; types = types; blocks = bs }) s (record { p = F.end + 2; q = at }) r F.blocks
+        names names' each each' out out')
+      where
+        again_blocks : (record_in s).blocks ≡ blocks_in F.width s (F.end + 2) F.blocks
+        again_blocks = blocks_at h F.width F.blocks wide blocks_count
 
-      pub blocks_put : Wrote out out' at r.at.q (blocks_bytes (rewriting_in s))
-      unfolding rewriting
-      blocks_put =
-          subst (λ (k : ℕ). Wrote out out' at r.at.q (join (map (block_bytes k) (lvn (function (record_in s))).blocks)))
-          (wide ∙ ap id_bytes (sym (version_in s)))
-          (blocks_written (record_in s) again_blocks exact)
+        exact : BlocksDone F.width (function (record_in s)) s (record { p = F.end + 2; q = at }) r F.blocks names names' each each' out out'
+        exact =
+            let same : ◌≡◌ {A = Function} (record { args = F.args; types = types; blocks = (record_in s).blocks }) (function (record_in s)) =
+            λ i. record { args = (few_arguments ∙ sym (args_in s)) i; types = t i; blocks = (record_in s).blocks } in
+            subst
+            (λ (g : Function). BlocksDone F.width g s (record { p = F.end + 2; q = at }) r F.blocks names names' each each' out out') same
+            (done (record_in s).blocks)
 
-      pub blocks_noted : 256 * num_at s F.end 2 ≤ length names → Noted s names' r.count.total
-      blocks_noted room =
-          let x = record_in s in
-          let many : r.count.total ≡ length (made x) = made_many x again_blocks exact in
-          let few : length (made x) ≤ length names = omega (arith, made_each h, room) in
-          let same : length (indexes (made x)) ≡ length (made x) = length-map (made x) (λ (y : NameIx). y.0) in
-          let noted : Wrote names names' 0 r.count.total (indexes (made x)) = made_noted x again_blocks exact in
-          let whole : names' ≡ indexes (made x) ++ drop (length (indexes (made x))) names =
-          noted.out ∙ put_first names (indexes (made x)) (omega (arith, same, few)) in
-          record {
-            many = many;
-            room = omega (arith, many, few, ap length noted.out, length_put names 0 (indexes (made x)));
-            saved =
-                (λ i. take ((many ∙ sym same) i) (whole i)) ∙
-                take-append_seam (indexes (made x)) (drop (length (indexes (made x))) names);
-          }
+        pub blocks_put : Wrote out out' at r.at.q (blocks_bytes (rewriting_in s))
+        unfolding rewriting
+        blocks_put =
+            subst (λ (k : ℕ). Wrote out out' at r.at.q (join (map (block_bytes k) (lvn (function (record_in s))).blocks)))
+            (wide ∙ ap id_bytes (sym (version_in s)))
+            (blocks_written (record_in s) again_blocks exact)
 
-      pub blocks_figured : each' ≡ put each 0 (figures_in s)
-      unfolding rewriting
-      blocks_figured = instructions_noted (record_in s) again_blocks exact
+        pub blocks_noted : 256 * num_at s F.end 2 ≤ length names → Noted s names' r.count.total
+        blocks_noted room =
+            let x = record_in s in
+            let many : r.count.total ≡ length (made x) = made_many x again_blocks exact in
+            let few : length (made x) ≤ length names = omega (arith, made_each h, room) in
+            let same : length (indexes (made x)) ≡ length (made x) = length-map (made x) (λ (y : NameIx). y.0) in
+            let noted : Wrote names names' 0 r.count.total (indexes (made x)) = made_noted x again_blocks exact in
+            let whole : names' ≡ indexes (made x) ++ drop (length (indexes (made x))) names =
+            noted.out ∙ put_first names (indexes (made x)) (omega (arith, same, few)) in
+            record {
+              many = many;
+              room = omega (arith, many, few, ap length noted.out, length_put names 0 (indexes (made x)));
+              saved =
+                  (λ i. take ((many ∙ sym same) i) (whole i)) ∙
+                  take-append_seam (indexes (made x)) (drop (length (indexes (made x))) names);
+            }
+
+        pub blocks_figured : each' ≡ put each 0 (figures_in s)
+        unfolding rewriting
+        blocks_figured = instructions_noted (record_in s) again_blocks exact
 
 -- ---- the made names
 again : (xs : List NameIx) → map nm (indexes xs) ≡ xs

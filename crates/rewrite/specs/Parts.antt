@@ -43,17 +43,32 @@ longest_rewriting = 7000000
 abbrev pub most_saves : ℕ
 most_saves = 16384
 
+-- the table of places of a record that is laid open has the place of each name
+abbrev pub PlacesHeld : Opened → Type 0
+PlacesHeld x = NamesAt x.reads.now x.places.now (names_count x.reads.now)
+
 -- what is known of a record that is laid open
 pub record Typed (x : Opened) : Type 0 where
   pub reads : Reads x.reads.now x.end
   pub types : x.types.now ≡ types_in x.reads.now
-  pub places : NamesAt x.reads.now x.places.now (names_count x.reads.now)
+  pub places : PlacesHeld x
 
 -- what numbering its blocks is lent: the types, and a table for what each K saves
 pub record Lent (x : Opened) (ms : List ℕ) : Type 0 where
   pub reads : Reads x.reads.now x.end
   pub types : x.types.now ≡ types_in x.reads.now
   pub names : most_body * num_at x.reads.now x.end 2 ≤ length ms
+
+-- what measuring and writing a record are lent: all that is known of it, and a table for what each K saves
+pub record Ready (x : Opened) (ms : List ℕ) : Type 0 where
+  pub typed : Typed x
+  pub names : most_body * num_at x.reads.now x.end 2 ≤ length ms
+
+-- what writing all that stands before the blocks is lent: the places, and a row of the names of which K = 0, 1, .. are made
+pub record Front (x : Opened) (row : List ℕ) : Type 0 where
+  pub reads : Reads x.reads.now x.end
+  pub saved : row ≡ indexes (made (record_in x.reads.now))
+  pub places : PlacesHeld x
 
 -- the answer and what it leaves of an output are those of the record that stands in these bytes
 abbrev pub Answered : List ℕ → List ℕ → Rewritten → List ℕ → Type 0

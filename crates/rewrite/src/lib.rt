@@ -1,55 +1,41 @@
 // Rewrite: a record is checked and its rewriting written. Where the output surely has room, the blocks are written once and then moved
 // behind the names that are made. Otherwise they are numbered twice: over an empty output, which gives the bytes needed and the made
 // names, then over the output.
-// as: a number that is known to fit, or u64 and usize, which have no From; try_from would hand out an error that cannot be.
+// as: the number fits, or u64 and usize have no From; try_from would give an error that cannot happen.
 #![tactic(auto)]
 
 ghost use Rattle.std.specs.Prelude.{Ok, ◌≡◌, ◌∷◌, ◌+◌, ◌*◌, ◌<◌, ◌≤◌, length};
-ghost use Rattle.record.specs.Reader.{num_at};
 ghost use Rattle.record.specs.Write.{be, join, bytes};
 ghost use Rattle.record.specs.Answer.{checked};
-ghost use Rattle.record.specs.Decode.{names_count};
 ghost use Rattle.record.specs.Sizes.{most_body};
-ghost use Rattle.record.specs.Again.{record_in, Reads};
+ghost use Rattle.record.specs.Again.{record_in};
 ghost use Rattle.numbering.specs.Made.{made};
 ghost use Rattle.numbering.specs.Rewrite.{rewrite, rewrite_leaves};
 ghost use Rattle.write_bytes.specs.Put.{put, Wrote};
-ghost use Rattle.read_layout.specs.Layout.{NamesAt, layout_of};
 ghost use Rattle.lvn_blocks.specs.Block.{indexes};
-ghost use Rattle.rewrite.specs.Parts.{rewriting_in, figures_in, front_parts, blocks_bytes, Lent, Typed, Noted, Answered, longest_front, longest_blocks, longest_rewriting, most_saves};
+ghost use Rattle.rewrite.specs.Parts.{rewriting_in, figures_in, front_parts, blocks_bytes, Lent, Ready, Front, Typed, Noted, Answered, longest_front, longest_blocks, longest_rewriting, most_saves};
 
 use lvn_blocks::{Behind, BlockState, Source, Spot};
-use lvn_state::NAMES;
 use numbering::{RewriteError, Totals};
-use read_layout::Layout;
+use record::NAMES;
 use write_names::Names;
 
+// As many saves as a block can have, one for each instruction, and as many blocks as a record can have.
+const SAVES: usize = 256;
+
+const BLOCKS: usize = 64;
+
 // A record that is laid open: its bytes, the types and places of its names, and where these end. Source and Names are made of it where they are
-// asked for: each of the crates below has a part of it. The two tables are arrays of who opens a record, as here, in figures and in engine: a
-// struct that owned them would be longer than these lines, and be copied out of what makes it. What is known of it, that the record reads, its
-// types and its places, is asked by each function as far as it needs it: who writes the blocks asks nothing of the places, and who writes what
-// stands before them nothing of the types.
-#[derive(Clone, Copy)]
+// asked for: each of the crates below has a part of it. The two tables are arrays of with_opened, which lends them: a struct that owned them would
+// be copied out of what makes it. What is known of it, that the record reads, its types and its places, is asked by each function as far as it
+// needs it: Lent, to write the blocks, says nothing of the places, and Front, to write what stands before them, nothing of the types; Ready, to
+// write both, says all.
+#[derive(Clone, Copy, PartialEq, Eq, Debug)]
 pub struct Opened<'a> {
     pub reads: &'a [u8],
     pub types: &'a [u8],
     pub places: &'a [u32],
     pub end: usize,
-}
-
-// What its head says.
-fn head_of(src: &Opened) -> Layout
-    requires { Reads src.now.reads.now src.now.end }
-    ensures { (result ≡ layout_of src.now.reads.now) × (result.end ≡ src.now.end) }
-{
-    let s = src.reads;
-    Layout {
-        width: read_layout::id_width(s),
-        args: read_fields::byte_or(s, 5) as u16,
-        names: read_fields::be::<2>(s, 6) as u16,
-        end: src.end,
-        blocks: read_fields::be::<2>(s, src.end) as usize,
-    }
 }
 
 // The blocks of the rewriting, from a place on; the place behind them, and the count of saves. names: what each K saved; each: how many
@@ -68,7 +54,7 @@ pub fn put_blocks(
         (Noted src.now.reads.now names.new result.count.total × ((result.at.q ≤ at + longest_blocks) ×
         (each.new ≡ put each.old 0 (figures_in src.now.reads.now)))) }
 {
-    let layout = head_of(src);
+    let layout = read_layout::layout_at(src.reads, src.end);
     let source = Source {
         reads: src.reads,
         layout,
@@ -84,32 +70,29 @@ pub fn put_blocks(
 // All that stands before the blocks: L, version, A and N, the names, B; the place behind it. rest: L; row: the names of which K = 0, 1, ..
 // are made.
 pub fn put_front(src: &Opened, row: &[u16], out: &mut [u8], rest: u32) -> usize
-    requires { Reads src.now.reads.now src.now.end × ((row.now ≡ indexes (made (record_in src.now.reads.now)))
-        × NamesAt src.now.reads.now src.now.places.now (names_count src.now.reads.now)) }
+    requires { Front src.now row.now }
     ensures { Wrote out.old out.new 0 result (join (be 4 rest ∷ front_parts (rewriting_in src.now.reads.now))) ×
         ((result ≤ longest_front) × (src.now.end + 2 ≤ result)) }
 {
     let s = src.reads;
-    let version = read_fields::byte_or(s, 4) as u8;
-    let args = read_fields::byte_or(s, 5) as u8;
-    let n = read_fields::be::<2>(s, 6) as u16;
-    let count = read_fields::be::<2>(s, src.end) as u16;
+    let version = read_fields::u8_at(s, 4);
+    let args = read_fields::u8_at(s, 5);
+    let count = read_layout::names_count(s) + row.len() as u16;
     write_bytes::put_u32(out, 0, rest);
-    write_names::put_record_head(out, version, args, n + row.len() as u16);
+    write_names::put_record_head(out, version, args, count);
     let p = write_names::copy_names(s, out, src.end);
     let names = Names {
         bytes: s,
         places: src.places,
     };
     let q = names.put_made_names(out, p, row);
-    write_bytes::put_u16(out, q, count);
+    write_bytes::put_u16(out, q, read_fields::u16_at(s, src.end));
     q + 2
 }
 
 // How many bytes that is.
 pub fn front_size(src: &Opened, row: &[u16]) -> usize
-    requires { Reads src.now.reads.now src.now.end × ((row.now ≡ indexes (made (record_in src.now.reads.now)))
-        × NamesAt src.now.reads.now src.now.places.now (names_count src.now.reads.now)) }
+    requires { Front src.now row.now }
     ensures { (result ≡ length (join (be 4 0 ∷ front_parts (rewriting_in src.now.reads.now)))) ×
         ((result ≤ longest_front) × (src.now.end + 2 ≤ result)) }
 {
@@ -123,7 +106,7 @@ pub fn front_size(src: &Opened, row: &[u16]) -> usize
 // How many bytes and saves the rewriting has, by the blocks written to nothing; and the names that are made, and the instructions of each
 // block.
 pub fn measure(st: &mut BlockState, src: &Opened, names: &mut [u16], each: &mut [u16]) -> Totals
-    requires { Lent src.now names.old × NamesAt src.now.reads.now src.now.places.now (names_count src.now.reads.now) }
+    requires { Ready src.now names.old }
     ensures { (result.bytes ≡ length (bytes (rewriting_in src.now.reads.now))) ×
         (Noted src.now.reads.now names.new result.saves × ((result.bytes ≤ longest_rewriting) ×
         ((each.new ≡ put each.old 0 (figures_in src.now.reads.now)) × (result.saves < 65536)))) }
@@ -144,9 +127,8 @@ pub fn put_record(
     out: &mut [u8],
     size: Totals,
 )
-    requires { Lent src.now names.old × (NamesAt src.now.reads.now src.now.places.now (names_count src.now.reads.now) ×
-        (Noted src.now.reads.now names.old size.saves ×
-        ((size.bytes ≡ length (bytes (rewriting_in src.now.reads.now))) × (size.bytes ≤ longest_rewriting)))) }
+    requires { Ready src.now names.old × (Noted src.now.reads.now names.old size.saves ×
+        ((size.bytes ≡ length (bytes (rewriting_in src.now.reads.now))) × (size.bytes ≤ longest_rewriting))) }
     ensures { out.new ≡ put out.old 0 (bytes (rewriting_in src.now.reads.now)) }
 {
     let row = &names[..size.saves];
@@ -157,8 +139,7 @@ pub fn put_record(
 // The rewriting, where the output has room: the blocks are written behind the input's names and moved behind the made ones, then what
 // stands before them.
 pub fn put_once(st: &mut BlockState, src: &Opened, names: &mut [u16], out: &mut [u8]) -> Totals
-    requires { Lent src.now names.old × (NamesAt src.now.reads.now src.now.places.now (names_count src.now.reads.now)
-        × (length (bytes (rewriting_in src.now.reads.now)) ≤ length out.old)) }
+    requires { Ready src.now names.old × (length (bytes (rewriting_in src.now.reads.now)) ≤ length out.old) }
     ensures { (result.bytes ≡ length (bytes (rewriting_in src.now.reads.now))) ×
         ((result.saves ≡ length (made (record_in src.now.reads.now))) ×
         ((out.new ≡ put out.old 0 (bytes (rewriting_in src.now.reads.now))) × (result.saves < 65536))) }
@@ -183,7 +164,7 @@ pub fn rewrite_measured(
     names: &mut [u16],
     out: &mut [u8],
 ) -> Result<Totals, RewriteError>
-    requires { Lent src.now names.old × NamesAt src.now.reads.now src.now.places.now (names_count src.now.reads.now) }
+    requires { Ready src.now names.old }
     ensures { Answered src.now.reads.now out.old result out.new }
 {
     let size = measure(st, src, names, &mut []);
@@ -201,7 +182,7 @@ pub fn rewrite_noting(
     names: &mut [u16],
     out: &mut [u8],
 ) -> Result<Totals, RewriteError>
-    requires { Typed src.now × (most_body * num_at src.now.reads.now src.now.end 2 ≤ length names.old) }
+    requires { Ready src.now names.old }
     ensures { Answered src.now.reads.now out.old result out.new }
 {
     let mut st = BlockState::new();
@@ -211,7 +192,9 @@ pub fn rewrite_noting(
     rewrite_measured(&mut st, src, names, out)
 }
 
-// A table for what each K of so many blocks saves, lent with what is written to a function: few blocks have few saves.
+// Lends `then` a table for what each K saves, and out, and hands back its answer. The table is an array of this function, long enough for so many
+// blocks; all of it is zeros at first, so that one block, or up to four, get a shorter one. The contract says: `then` is called with a table that
+// is long enough (names) and with out as it was (o); its answer is the answer, and what it leaves in o (written) is what out is left with.
 pub fn with_table<T, R, F: FnOnce(&mut [u16], &mut [T]) -> R>(
     blocks: u64,
     out: &mut [T],
@@ -223,11 +206,11 @@ pub fn with_table<T, R, F: FnOnce(&mut [u16], &mut [T]) -> R>(
         ((o.now ≡ out.old) × ((written.now ≡ out.new) × F.post then names o result filled written))) }
 {
     if blocks <= 1 {
-        then(&mut [0; 256], out)
+        then(&mut [0; SAVES], out)
     } else if blocks <= 4 {
-        then(&mut [0; 1024], out)
+        then(&mut [0; 4 * SAVES], out)
     } else {
-        then(&mut [0; 16384], out)
+        then(&mut [0; BLOCKS * SAVES], out)
     }
 }
 
@@ -237,17 +220,20 @@ pub fn rewrite_typed(src: &Opened, out: &mut [u8]) -> Result<Totals, RewriteErro
     ensures { Answered src.now.reads.now out.old result out.new }
 {
     let noting = |names: &mut [u16], o: &mut [u8]|
-        requires { Typed src.now × (most_body * num_at src.now.reads.now src.now.end 2 ≤ length names.old) }
+        requires { Ready src.now names.old }
         ensures { Answered src.entry.now.reads.now o.old result o.new }
     { rewrite_noting(src, names, o) };
     with_table(read_fields::be::<2>(src.reads, src.end), out, noting)
 }
 
-// Of an accepted record: the types and places of its names, then the rest.
-pub fn rewrite_accepted(s: &[u8], out: &mut [u8]) -> Result<Totals, RewriteError>
-    requires { checked s.now ≡ Ok tt }
-    ensures { (result ≡ rewrite s.now out.old) ×
-        (out.new ≡ rewrite_leaves s.now out.old) }
+// Lends `then` an accepted record laid open, and out, and hands back its answer. The contract says: `then` is called with a record of these bytes
+// of which all holds that Typed says (src) and with out as it was (o); its answer is the answer, and what it leaves in o (written) is what out is
+// left with.
+pub fn with_opened<T, R, F: FnOnce(&Opened, &mut [T]) -> R>(s: &[u8], out: &mut [T], then: F) -> R
+    requires accepted { checked s.now ≡ Ok tt }
+    requires callable { (src : _) (o : _) → src.now.reads.now ≡ s.now → Typed src.now → o.now ≡ out.old → F.pre then src o }
+    ensures { (src : _) × (o : _) × (written : _) × (src.now.reads.now ≡ s.now) × Typed src.now × (o.now ≡ out.old) ×
+        (written.now ≡ out.new) × F.post then src o result written }
 {
     let mut types = [0u8; NAMES];
     let mut places = [0u32; NAMES];
@@ -258,7 +244,16 @@ pub fn rewrite_accepted(s: &[u8], out: &mut [u8]) -> Result<Totals, RewriteError
         places: &places,
         end: layout.end,
     };
-    rewrite_typed(&src, out)
+    then(&src, out)
+}
+
+// Of an accepted record.
+pub fn rewrite_accepted(s: &[u8], out: &mut [u8]) -> Result<Totals, RewriteError>
+    requires { checked s.now ≡ Ok tt }
+    ensures { (result ≡ rewrite s.now out.old) ×
+        (out.new ≡ rewrite_leaves s.now out.old) }
+{
+    with_opened(s, out, rewrite_typed)
 }
 
 // The rewriting of a record, written whole or not at all: its bytes and saves, check's refusal, or the bytes that the output is too

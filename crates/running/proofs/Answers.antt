@@ -15,10 +15,11 @@ use Rattle.record.specs.Write.{be, join}
 use Rattle.record.specs.Tests.{type_test}
 use Rattle.record.specs.Good.{Each}
 use Rattle.record.proofs.Tests.{and_right, passes_need}
+use Rattle.std.proofs.lemmas.Bool.{or_right}
 use Rattle.record.proofs.Stands.{Reads, past, field_reads, give_reads, bind_reads, last_reads}
 use Rattle.machine.specs.Machine.{Answer, value, go_on, halt}
 use Rattle.running.specs.House.{go_on_byte, halt_byte, value_type, answer_test, value_answer, answer_behind, house_answer, to_end, answers, type_byte, value_bytes, answer_bytes, form_bytes, answers_bytes}
-use Rattle.running.proofs.House.{or_both, byte_is_type, byte_no_mark, behind_reads, type_half, form_longer, in_form_reads}
+use Rattle.running.proofs.House.{byte_is_type, byte_no_mark, behind_reads, type_half, form_longer, in_form_reads}
 
 -- ---- one answer
 -- a value of some type that a name may have, go on, or halt
@@ -46,8 +47,8 @@ answer_reads at (value v) h =
     let r : in_range v ≡ true = and_right (eqb (type_of v) h.0) (in_range v) h.2 in
     let k : answer_test (type_byte v) ≡ Ok tt =
     passes_need _ Limit
-    (or_both (eqb (type_byte v) go_on_byte) _
-    (or_both (eqb (type_byte v) halt_byte) (value_type (type_byte v)) (byte_is_type v l))) in
+    (or_right (eqb (type_byte v) go_on_byte) _
+    (or_right (eqb (type_byte v) halt_byte) (value_type (type_byte v)) (byte_is_type v l))) in
     value_reads at v r (byte_no_mark go_on_byte v (omega arith) l) (byte_no_mark halt_byte v (omega arith) l) k
 answer_reads at go_on h = bind_reads _ [] (field_reads 0 at go_on_byte answer_test refl) (last_reads (λ v. v) give_reads)
 answer_reads at halt h = bind_reads _ [] (field_reads 0 at halt_byte answer_test refl) (last_reads (λ v. v) give_reads)

@@ -1,15 +1,14 @@
 -- How many bytes the events can need: each takes an answer but the one at which a run stops, and an event of eight arguments has 148 bytes.
 use Prim.Native.Nat.{ℕ, zero, suc, ◌+◌, ◌*◌, ◌≤◌}
 use mathlib.Core.Path.{◌≡◌, refl, sym, ap, ◌∙◌, subst}
-use mathlib.Core.Bool.{Bool, true, false, cond, not}
+use mathlib.Core.Bool.{cond, not}
 use mathlib.Core.Option.{Option, none, some}
-use mathlib.Core.List.{List, [], ◌∷◌, ◌++◌, map}
+use mathlib.Core.List.{List, [], ◌∷◌, ◌++◌, map, append_assoc}
 use native.Mathlib.Omega.{arith}
 use lib.ListN.{length, length-append}
 use lib.Dec.{eqb}
 use Rattle.arith.proofs.Clash.{clash}
-use Rattle.arith.specs.Value.{Val, int, float, literal, char, bool, pointer, has_type}
-use Rattle.arith.specs.Operation.{Result, ok, stops, unset}
+use Rattle.arith.specs.Value.{Val, int, float, literal, char, bool, pointer}
 use Rattle.record.specs.declared.NameIx.{NameIx}
 use Rattle.record.specs.Record.{Instr, Placed, Block, Record, function, plain, limits, id_bytes}
 use Rattle.record.specs.Form.{Form, pure, new, effect, return, nop, jump, branch, form}
@@ -26,10 +25,10 @@ use Rattle.record.proofs.Sizes.{id_bytes_are}
 use Rattle.record.proofs.Form.{FormOf, of_constant, of_one, of_two, of_new, of_jump, of_branch, of_return, of_nop, of_effect, form_of}
 use Rattle.record.proofs.Accepted.{read_ok}
 use Rattle.record.proofs.Typed.{accept_typed}
-use Rattle.machine.specs.Machine.{Store, Context, plain_machine, Answer, value, go_on, halt, Event, Mach, Step, goes, jumps, ends, tick, assign, happens, read_all, read_cons, event_of, finish, take_value, answered, perform, ask, acknowledged, tell, leave, choose, act, step}
+use Rattle.machine.specs.Machine.{Store, Context, plain_machine, Answer, Event, Mach, Step, goes, jumps, ends, tick, assign, happens, read_all, read_cons, event_of, step}
 use Rattle.running.specs.Steps.{Stand, facing, over, Config, moved, step_from, take_step, steps, start}
 use Rattle.running.specs.House.{type_byte, words, value_bytes, event_bytes, events_bytes, nothing_byte, stored_bytes, form_bytes, store_bytes}
-use Rattle.running.proofs.Kept.{Shows, in_new, in_effect, in_return, Keeps, steps_keep}
+use Rattle.running.proofs.Kept.{Rest, all_left, one_taken, Comes, Told, step_comes, Shows, in_new, in_effect, in_return, Keeps, steps_keep}
 
 -- ---- events and the answers that are left
 -- over n answers at the start
@@ -40,80 +39,19 @@ module _ (n : ℕ) where
   abbrev Last : Mach → Type 0
   Last m = length m.events + length m.answers ≤ suc n
 
-  -- a step that stops may have an event that took no answer
-  abbrev Takes : Step → Type 0
-  Takes (goes m) = Even m
-  Takes (jumps b m) = Even m
-  Takes (ends s m) = Last m
-
   added : (m : Mach) (e : Event) → length (m.events ++ (e ∷ [])) ≡ suc (length m.events)
   added m e = length-append m.events (e ∷ []) ∙ omega arith
 
-  finish_takes : (i : Instr) (m : Mach) (r : Result) → Even m → Takes (finish i m r)
-  unfolding finish assign
-  finish_takes i m (ok v) h = h
-  finish_takes i m (stops c) h = omega (arith, h)
-  finish_takes i m unset h = omega (arith, h)
+  event_takes : (m : Mach) (e : Event) {xs ys : List Answer} (r : Rest xs ys) → length m.events + length xs ≤ n → Told Even Last r (happens m e ys)
+  unfolding happens
+  event_takes m e (all_left xs) h = omega (arith, h, added m e)
+  event_takes m e (one_taken x xs) h = omega (arith, h, added m e)
 
-  take_value_takes : (b : Bool) (i : Instr) (m : Mach) (v : Val) → Even m → Takes (take_value b i m v)
-  unfolding take_value assign
-  take_value_takes true i m v h = h
-  take_value_takes false i m v h = omega (arith, h)
-
-  -- xs: the answers that m has
-  answered_takes : (t : ℕ) (i : Instr) (m : Mach) (e : Event) (xs : List Answer) → length m.events + length xs ≤ n → Takes (answered t i m e xs)
-  unfolding answered happens
-  answered_takes t i m e [] h = omega (arith, h, added m e)
-  answered_takes t i m e (value v ∷ xs) h = take_value_takes (has_type t v) i (happens m e xs) v (omega (arith, h, added m e))
-  answered_takes t i m e (go_on ∷ xs) h = omega (arith, h, added m e)
-  answered_takes t i m e (halt ∷ xs) h = omega (arith, h, added m e)
-
-  perform_takes : (t : ℕ) (i : Instr) (m : Mach) (vs : List Val) (o : Option Val) → Even m → Takes (perform t i m vs o)
-  unfolding perform assign
-  perform_takes t i m vs (some v) h = h
-  perform_takes t i m vs none h = answered_takes t i m _ m.answers h
-
-  ask_takes : (ctx : Context) (i : Instr) (m : Mach) (o : Option (List Val)) → Even m → Takes (ask ctx i m o)
-  unfolding ask
-  ask_takes ctx i m none h = omega (arith, h)
-  ask_takes ctx i m (some vs) h = perform_takes _ i m vs _ h
-
-  acknowledged_takes : (m : Mach) (e : Event) (xs : List Answer) → length m.events + length xs ≤ n → Takes (acknowledged m e xs)
-  unfolding acknowledged happens
-  acknowledged_takes m e [] h = omega (arith, h, added m e)
-  acknowledged_takes m e (value v ∷ xs) h = omega (arith, h, added m e)
-  acknowledged_takes m e (go_on ∷ xs) h = omega (arith, h, added m e)
-  acknowledged_takes m e (halt ∷ xs) h = omega (arith, h, added m e)
-
-  tell_takes : (i : Instr) (m : Mach) (o : Option (List Val)) → Even m → Takes (tell i m o)
-  unfolding tell
-  tell_takes i m none h = omega (arith, h)
-  tell_takes i m (some vs) h = acknowledged_takes m _ m.answers h
-
-  leave_takes : (i : Instr) (m : Mach) (o : Option (List Val)) → Even m → Takes (leave i m o)
-  unfolding leave happens
-  leave_takes i m none h = omega (arith, h)
-  leave_takes i m (some vs) h = omega (arith, h, added m (event_of i vs))
-
-  choose_takes : (b c : ℕ) (m : Mach) (o : Option Bool) → Even m → Takes (choose b c m o)
-  unfolding choose
-  choose_takes b c m none h = omega (arith, h)
-  choose_takes b c m (some true) h = h
-  choose_takes b c m (some false) h = h
-
-  act_takes : (ctx : Context) (i : Instr) (m : Mach) (f : Form) → Even m → Takes (act ctx i m f)
-  unfolding act
-  act_takes ctx i m (pure e) h = finish_takes i m _ h
-  act_takes ctx i m (new xs) h = ask_takes ctx i m _ h
-  act_takes ctx i m (effect xs) h = tell_takes i m _ h
-  act_takes ctx i m (return xs) h = leave_takes i m _ h
-  act_takes ctx i m nop h = h
-  act_takes ctx i m (jump b) h = h
-  act_takes ctx i m (branch a b c) h = choose_takes b c m _ h
-
-  step_takes : (ctx : Context) (i : Instr) (m : Mach) → Even m → Takes (step ctx i m)
-  unfolding step tick
-  step_takes ctx i m h = act_takes ctx i (tick m) (form ctx.types i) h
+  -- a step that stops may have an event that took no answer
+  step_takes : (ctx : Context) (i : Instr) (m : Mach) → Even m → Comes Even Last (step ctx i m)
+  unfolding tick assign
+  step_takes ctx i m h =
+      step_comes ctx i Even Last (λ m h. omega (arith, h)) (λ m v g h. h) (λ m vs xs s r h. event_takes m (event_of i vs) r h) m h
 
   -- what is running has an answer less for each event
   abbrev Balanced : Stand → Mach → Type 0
@@ -125,7 +63,7 @@ module _ (n : ℕ) where
   even_balanced (over s) m h = omega (arith, h)
 
   module _ (ctx : Context) (bs : List (Block Instr)) where
-    moved_balanced : (b : ℕ) (is : List Instr) (s : Step) → Takes s → Balanced (moved bs b is s).stand (moved bs b is s).mach
+    moved_balanced : (b : ℕ) (is : List Instr) (s : Step) → Comes Even Last s → Balanced (moved bs b is s).stand (moved bs b is s).mach
     moved_balanced b is (goes m) h = even_balanced (moved bs b is (goes m)).stand m h
     moved_balanced b is (jumps c m) h = even_balanced (moved bs b is (jumps c m)).stand m h
     moved_balanced b is (ends s m) h = h
@@ -156,7 +94,7 @@ events_few ctx bs σ xs k =
     (even_balanced (length xs) (start bs σ xs).stand (start bs σ xs).mach (omega arith)))
 
 -- ---- the bytes of an event
-words_size : (v : Val) → length (words v) ≤ 16
+pub words_size : (v : Val) → length (words v) ≤ 16
 unfolding words join
 words_size (int w) = omega (arith, length_be 8 w)
 words_size (float b) = omega (arith, length_be 8 b)
@@ -194,6 +132,14 @@ event_size w e =
       length-append n (vs ++ []),
       length-append vs [],
     )
+
+-- those of events one after the other
+pub events_append : (w : ℕ) (es fs : List Event) → events_bytes w (es ++ fs) ≡ events_bytes w es ++ events_bytes w fs
+unfolding events_bytes join
+events_append w [] fs = refl
+events_append w (e ∷ es) fs =
+    ap (λ (l : List ℕ). event_bytes w e ++ l) (events_append w es fs)
+    ∙ sym (append_assoc (event_bytes w e) (events_bytes w es) (events_bytes w fs))
 
 -- ---- the bytes of a store
 held_size : (o : Option Val) → length (stored_bytes o) ≤ 17
@@ -235,7 +181,7 @@ form_asked t i (of_return e) = refl
 form_asked t i (of_nop e) = refl
 form_asked t i of_effect = refl
 
-read_all_length : (σ : Store) (xs : List NameIx) (vs : List Val) → read_all σ xs ≡ some vs → length vs ≡ length xs
+pub read_all_length : (σ : Store) (xs : List NameIx) (vs : List Val) → read_all σ xs ≡ some vs → length vs ≡ length xs
 unfolding read_all
 read_all_length σ [] vs e = let z : [] ≡ vs = cc e in ap length (sym z)
 read_all_length σ (x ∷ xs) vs e = go (σ x) (read_all σ xs) (λ us h. read_all_length σ xs us h) e

@@ -14,7 +14,7 @@ use Rattle.machine.specs.Machine.{Answer}
 use Rattle.record.specs.Record.{Record, Instr, Placed, Function, function, plain, names_of, limits, id_bytes}
 use Rattle.record.specs.Reader.{Res, got, fault}
 use Rattle.record.specs.Typing.{accept}
-use Rattle.std.specs.Prelude.{Ok, Err}
+use Rattle.std.specs.Prelude.{Err}
 use Rattle.record.specs.Answer.{fault_at}
 use Rattle.running.specs.Engine.{Ran, done}
 use Rattle.record.specs.declared.Fault.{Fault}

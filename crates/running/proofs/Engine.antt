@@ -2,11 +2,14 @@
 -- halted the machine.
 use Prim.Native.Nat.{ℕ, zero, suc, ◌≤◌, ◌<◌}
 use mathlib.Core.Path.{◌≡◌, refl, sym, ap, ◌∙◌, subst}
-use mathlib.Core.Bool.{Bool, true, false, cond, not, ◌||◌}
+use mathlib.Core.Bool.{Bool, true, false, cond, not, ◌||◌, true≢false}
 use mathlib.Core.Logic.{◌↔◌}
 use mathlib.Core.Option.{Option, none, some}
 use mathlib.Core.List.{List, [], ◌∷◌}
 use native.Mathlib.Omega.{arith}
+use borrow.Author.Tests.{le-ltb}
+use Rattle.std.proofs.lemmas.Bool.{or_from}
+use Rattle.arith.proofs.Clash.{clash}
 use lib.ListN.{length}
 use Rattle.arith.specs.Value.{Val, has_type}
 use Rattle.record.specs.Record.{Instr, Placed, Block, Record, Function, function, plain, names_of, limits, id_bytes}
@@ -15,11 +18,10 @@ use Rattle.record.specs.Reader.{Res, got, fault}
 use Rattle.record.specs.Typing.{accept}
 use Rattle.running.specs.declared.Ending.{Ending}
 use Rattle.running.specs.declared.Ending.TheVariants.{Limit}
-use Rattle.std.specs.Prelude.{Ok, Err}
-use Rattle.record.specs.Answer.{fault_at}
-use Rattle.running.specs.Engine.{Ran, run_of, done}
+use Rattle.std.specs.Prelude.{Err}
+use Rattle.running.specs.Engine.{run_of, done}
 use Rattle.running.specs.declared.Run.{Run}
-use Rattle.running.specs.declared.RunError.TheVariants.{Refused, Unfit, Room}
+use Rattle.running.specs.declared.RunError.TheVariants.{Room}
 use Rattle.machine.specs.Machine.{Store, Context, plain_machine, Answer, value, go_on, halt, Event, Stop, at_end, at_ret, at_halt, at_unset, at_division, Mach, Step, ends, tick, happens, read_all, take_value, answered, perform, ask, acknowledged, tell, act, step, stopped, run}
 use Rattle.running.specs.Steps.{Stand, facing, over, Config, running, moved, step_from, take_step, steps, start}
 use Rattle.running.specs.House.{stored, answers, holding, values_from, store_bytes, events_bytes}
@@ -31,12 +33,9 @@ use Rattle.running.proofs.Limit.{steps_at_most, steps_reach, limit_exact, limit_
 pub data Halts : Step → Type 0 where
   halts : (m : Mach) → Halts (ends at_halt m)
 
-differ : {A : Type 0} → true ≡ false → A
-differ e = let z : ◌≡◌ {A = ℕ} 0 1 = cc in absurd (omega arith)
-
 untyped_halts : (b : Bool) (i : Instr) (m : Mach) (v : Val) → b ≡ false → Halts (take_value b i m v)
 unfolding take_value
-untyped_halts true i m v e = differ e
+untyped_halts true i m v e = absurd (true≢false e)
 untyped_halts false i m v e = halts m
 
 answered_halts : (t : ℕ) (i : Instr) (m : Mach) (e : Event) (xs : List Answer) → fits_value t xs ≡ false → Halts (answered t i m e xs)
@@ -50,37 +49,37 @@ acknowledged_halts : (m : Mach) (e : Event) (xs : List Answer) → fits_effect x
 unfolding acknowledged fits_effect
 acknowledged_halts m e [] h = halts _
 acknowledged_halts m e (value v ∷ xs) h = halts _
-acknowledged_halts m e (go_on ∷ xs) h = differ h
+acknowledged_halts m e (go_on ∷ xs) h = absurd (true≢false h)
 acknowledged_halts m e (halt ∷ xs) h = halts _
 
 performed_halts :
     (t : ℕ) (i : Instr) (m : Mach) (vs : List Val) (o : Option Val) →
     fits_performed t m.answers o ≡ false → Halts (perform t i m vs o)
 unfolding perform
-performed_halts t i m vs (some v) h = differ h
+performed_halts t i m vs (some v) h = absurd (true≢false h)
 performed_halts t i m vs none h = answered_halts t i m _ m.answers h
 
 ask_halts :
     (ctx : Context) (i : Instr) (m : Mach) (o : Option (List Val)) →
     fits_new ctx i m.answers o ≡ false → Halts (ask ctx i m o)
 unfolding ask fits_new
-ask_halts ctx i m none h = differ h
+ask_halts ctx i m none h = absurd (true≢false h)
 ask_halts ctx i m (some vs) h = performed_halts _ i m vs _ h
 
 tell_halts : (i : Instr) (m : Mach) (o : Option (List Val)) → fits_told m.answers o ≡ false → Halts (tell i m o)
 unfolding tell fits_told
-tell_halts i m none h = differ h
+tell_halts i m none h = absurd (true≢false h)
 tell_halts i m (some vs) h = acknowledged_halts m _ m.answers h
 
 act_halts : (ctx : Context) (i : Instr) (m : Mach) (f : Form) → fits_form ctx i m f ≡ false → Halts (act ctx i (tick m) f)
 unfolding act fits_form tick
-act_halts ctx i m (pure e) h = differ h
+act_halts ctx i m (pure e) h = absurd (true≢false h)
 act_halts ctx i m (new xs) h = ask_halts ctx i (tick m) (read_all m.store xs) h
 act_halts ctx i m (effect xs) h = tell_halts i (tick m) (read_all m.store xs) h
-act_halts ctx i m (return xs) h = differ h
-act_halts ctx i m nop h = differ h
-act_halts ctx i m (jump b) h = differ h
-act_halts ctx i m (branch a b c) h = differ h
+act_halts ctx i m (return xs) h = absurd (true≢false h)
+act_halts ctx i m nop h = absurd (true≢false h)
+act_halts ctx i m (jump b) h = absurd (true≢false h)
+act_halts ctx i m (branch a b c) h = absurd (true≢false h)
 
 -- "any other answer .. halts": so 13 refuses only what the machine would have halted at
 pub unfit_halts : (ctx : Context) (i : Instr) (m : Mach) → fits ctx i m ≡ false → Halts (step ctx i m)
@@ -124,7 +123,7 @@ module _ (s store list : List ℕ) (limit w N : ℕ) (c : Config) where
           cond b (ran (id_bytes g.rec.version) (names_of f) (running_for limit f g.values g.told)) unfit ≡ ran w N c →
           Comes s store list limit w N c
       go true h e = record { given = g; passed = h; width = cc e; names = cc e; config = cc e }
-      go false h e = let z : ◌≡◌ {A = ℕ} 0 1 = cc e in absurd (omega arith)
+      go false h e = clash (cc e)
 
   pub outcome_comes : outcome limits s store list limit ≡ ran w N c → Comes s store list limit w N c
   unfolding outcome with_record with_read
@@ -140,13 +139,13 @@ module _ (s store list : List ℕ) (limit w N : ℕ) (c : Config) where
           inputs_come
           (record { rec = r; rec_end = p; values = vs; values_end = q; told = xs; told_end = o; accepted = hr; store_reads = hv; list_reads = ha })
           e
-      at_inputs r p hr (got vs q) hv (fault k o) ha e = let z : ◌≡◌ {A = ℕ} 0 1 = cc e in absurd (omega arith)
-      at_inputs r p hr (fault k q) hv a ha e = let z : ◌≡◌ {A = ℕ} 0 1 = cc e in absurd (omega arith)
+      at_inputs r p hr (got vs q) hv (fault k o) ha e = clash (cc e)
+      at_inputs r p hr (fault k q) hv a ha e = clash (cc e)
 
       at_record :
           (r : Res (Record Placed)) → accept limits s ≡ r → with_record limit store list r ≡ ran w N c → Comes s store list limit w N c
       at_record (got r p) h e = at_inputs r p h (stored (names_of (function (plain r))) store 0) refl (answers list 0) refl e
-      at_record (fault k o) h e = let z : ◌≡◌ {A = ℕ} 0 1 = cc e in absurd (omega arith)
+      at_record (fault k o) h e = clash (cc e)
 
 -- ---- what a call that is done says
 -- how a run with these inputs ended, and the machine that it left
@@ -204,8 +203,8 @@ pub result_tells :
     result room more o ≡ done e l k how →
     Tells room more o e l k how
 unfolding result
-result_tells room more (refused a b) e l k how h = let z : ◌≡◌ {A = ℕ} 0 1 = cc h in absurd (omega arith)
-result_tells room more unfit e l k how h = let z : ◌≡◌ {A = ℕ} 0 1 = cc h in absurd (omega arith)
+result_tells room more (refused a b) e l k how h = clash (cc h)
+result_tells room more unfit e l k how h = clash (cc h)
 result_tells room more (ran w N c) e l k how h =
     go (too_short room more (length (events_left w c)) (length (store_left N c))) refl h
   where
@@ -214,7 +213,7 @@ result_tells room more (ran w N c) e l k how h =
         cond b (Err (Room (length (events_left w c)) (length (store_left N c))))
         (done (length (events_left w c)) (length (store_left N c)) c.mach.steps (ending_of c.stand)) ≡ done e l k how →
         Tells room more (ran w N c) e l k how
-    go true x h = let z : ◌≡◌ {A = ℕ} 0 1 = cc h in absurd (omega arith)
+    go true x h = clash (cc h)
     go false x h =
         let q : run_of (length (events_left w c)) (length (store_left N c)) c.mach.steps (ending_of c.stand) ≡ run_of e l k how = cc h in
         record {
@@ -244,6 +243,10 @@ pub record IsMachine (s store list : List ℕ) (limit : ℕ) (events left : List
   pub store_is :
       engine_store s store list limit events left ≡
       written (store_bytes (values_from mach.store 0 (names_of (function (plain given.rec))))) left
+
+-- rooms that are as long as what is left
+pub enough_room : (room more e l : ℕ) → e ≤ room → l ≤ more → too_short room more e l ≡ false
+enough_room room more e l h k = or_from _ _ (le-ltb room e h) (le-ltb more l k)
 
 pub events_written :
     (lent : List ℕ) (more : ℕ) (o : Outcome) (w N : ℕ) (c : Config) →
@@ -310,11 +313,11 @@ engine_is_machine s store list limit events left e l k how h =
 -- ---- "It says that the limit is spent exactly when the machine has not ended within that many steps."
 no_stop_is_limit : (t : Stop) → Limit ≡ stop_ending t → ⊥
 unfolding stop_ending
-no_stop_is_limit at_end e = let z : ◌≡◌ {A = ℕ} 0 1 = cc e in omega arith
-no_stop_is_limit at_ret e = let z : ◌≡◌ {A = ℕ} 0 1 = cc e in omega arith
-no_stop_is_limit at_halt e = let z : ◌≡◌ {A = ℕ} 0 1 = cc e in omega arith
-no_stop_is_limit at_unset e = let z : ◌≡◌ {A = ℕ} 0 1 = cc e in omega arith
-no_stop_is_limit (at_division id c) e = let z : ◌≡◌ {A = ℕ} 0 1 = cc e in omega arith
+no_stop_is_limit at_end e = clash (cc e)
+no_stop_is_limit at_ret e = clash (cc e)
+no_stop_is_limit at_halt e = clash (cc e)
+no_stop_is_limit at_unset e = clash (cc e)
+no_stop_is_limit (at_division id c) e = clash (cc e)
 
 pub limit_said :
     (f : Function) (σ : Store) (xs : List Answer) (limit : ℕ) (how : Ending) (m : Mach) →
@@ -341,7 +344,7 @@ module _ (ctx : Context) (bs : List (Block Instr)) where
 
   pub unfit_within_halts : (k : ℕ) (c : Config) → unfit_within ctx bs k c ≡ true → (steps ctx bs k c).stand ≡ over at_halt
   unfolding unfit_within steps take_step
-  unfit_within_halts zero c h = differ (sym h)
+  unfit_within_halts zero c h = absurd (true≢false (sym h))
   unfit_within_halts (suc k) c h = go c.stand refl (unfit_within_halts k (take_step ctx bs c)) (fits_at ctx c.mach c.stand) refl h
     where
       go :
@@ -358,4 +361,4 @@ module _ (ctx : Context) (bs : List (Block Instr)) where
           let n = (take_step ctx bs c).mach in
           let w : take_step ctx bs c ≡ record { stand = over at_halt; mach = n } = λ j. record { stand = q j; mach = n } in
           ap (λ (x : Config). (steps ctx bs k x).stand) w ∙ ap (λ (x : Config). x.stand) (over_stays ctx bs k at_halt n)
-      go (over s) e r false f h = differ (ap (fits_at ctx c.mach) (sym e) ∙ f)
+      go (over s) e r false f h = absurd (true≢false (ap (fits_at ctx c.mach) (sym e) ∙ f))

@@ -2,12 +2,15 @@
 use Prim.Native.Nat.{ℕ, zero, suc, ◌+◌, ◌-◌, ◌%◌, ◌≤◌, ◌<◌}
 use mathlib.Core.Path.{◌≡◌, refl, sym, ap, ◌∙◌}
 use mathlib.Core.List.{List, [], ◌∷◌, ◌++◌, map, append-nil}
-use mathlib.Core.Bool.{Bool, true, false, ◌||◌}
+use mathlib.Core.Bool.{true, false}
 use mathlib.Core.Option.{Option, none, some}
+use native.Mathlib.Nat.{zero-add}
 use native.Mathlib.Omega.{arith}
+use Rattle.arith.proofs.Clash.{clash}
 use lib.ListN.{length, get_or, drop, length-append}
 use lib.Dec.{ltb, leb, eqb}
 use borrow.Author.Tests.{le-ltb, leb-true, eqb-true, eq-eqb, ne_eqb}
+use Rattle.std.proofs.lemmas.Bool.{or_right}
 use Rattle.arith.specs.Value.{Val, int, float, literal, char, bool, pointer, is_pointer, scalar, type_of, in_range, has_type}
 use Rattle.record.specs.declared.NameIx.{NameIx}
 use Rattle.std.specs.Prelude.{Ok}
@@ -45,10 +48,6 @@ behind_reads at (bool false) h = word_reads 1 _ at 0 refl
 behind_reads at (pointer t b o) h = rw (and_left (is_pointer t) _ h) (two_words_read (pointer t) at b o)
 
 -- the type byte of a value whose type is a name's
-pub or_both : (a b : Bool) → b ≡ true → (a || b) ≡ true
-or_both true b e = refl
-or_both false b e = e
-
 pub byte_is_type : (v : Val) → leb (type_of v % 16) 3 ≡ true → value_type (type_byte v) ≡ true
 unfolding type_byte type_of
 byte_is_type (int w) h = refl
@@ -56,7 +55,7 @@ byte_is_type (float b) h = refl
 byte_is_type (literal w) h = refl
 byte_is_type (char c) h = refl
 byte_is_type (bool b) h = refl
-byte_is_type (pointer t b o) h = or_both (eqb t held) (leb (t % 16) 3) h
+byte_is_type (pointer t b o) h = or_right (eqb t held) (leb (t % 16) 3) h
 
 not_a_type : (k t : ℕ) → 3 < k % 16 → leb (t % 16) 3 ≡ true → eqb t k ≡ false
 not_a_type k t h e = ne_eqb t k (λ p. absurd (omega (arith, leb-true (t % 16) 3 e, h, ap (λ (n : ℕ). n % 16) p)))
@@ -100,7 +99,7 @@ stored_reads at (some v) h =
     let l : leb (type_of v % 16) 3 ≡ true = type_half h.0 v h.1 h.2 in
     let r : in_range v ≡ true = and_right (eqb (type_of v) h.0) (in_range v) h.2 in
     let k : stored_test (type_byte v) ≡ Ok tt =
-    passes_need _ Limit (or_both (eqb (type_byte v) nothing_byte) (value_type (type_byte v)) (byte_is_type v l)) in
+    passes_need _ Limit (or_right (eqb (type_byte v) nothing_byte) (value_type (type_byte v)) (byte_is_type v l)) in
     set_reads at v r (byte_no_mark nothing_byte v (omega arith) l) k
 
 -- ---- the form around the items
@@ -142,7 +141,7 @@ TypesPass ts = Each (λ left t. type_test t ≡ Ok tt) ts
 each_storable : (ts : List ℕ) (vs : List (Option Val)) → TypesPass ts → of_types ts vs ≡ true → Each (λ left o. Storable o) vs
 unfolding of_types
 each_storable [] [] h e = tt
-each_storable [] (v ∷ vs) h e = let z : ◌≡◌ {A = ℕ} 0 1 = cc in absurd (omega arith)
+each_storable [] (v ∷ vs) h e = clash (cc)
 each_storable (t ∷ ts) [] h e = tt
 each_storable (t ∷ ts) (v ∷ vs) h e =
     ((t, h.0, and_left (of_type t v) (of_types ts vs) e), each_storable ts vs h.1 (and_right (of_type t v) (of_types ts vs) e))
@@ -151,8 +150,8 @@ each_storable (t ∷ ts) (v ∷ vs) h e =
 pub of_types_length : (ts : List ℕ) (vs : List (Option Val)) → of_types ts vs ≡ true → length ts ≡ length vs
 unfolding of_types
 of_types_length [] [] e = refl
-of_types_length [] (v ∷ vs) e = let z : ◌≡◌ {A = ℕ} 0 1 = cc in absurd (omega arith)
-of_types_length (t ∷ ts) [] e = let z : ◌≡◌ {A = ℕ} 0 1 = cc in absurd (omega arith)
+of_types_length [] (v ∷ vs) e = clash (cc)
+of_types_length (t ∷ ts) [] e = clash (cc)
 of_types_length (t ∷ ts) (v ∷ vs) e = ap suc (of_types_length ts vs (and_right (of_type t v) (of_types ts vs) e))
 
 -- what is written of values of these types reads as those values
@@ -218,10 +217,7 @@ unfolding type_in
 store_reads_back ts σ h typed =
     let vs = values_from σ 0 (length ts) in
     let e : of_types ts vs ≡ true = values_typed ts σ 0 (λ k l v p. at_name k l v p) in
-    (store_back ts vs h e, e, λ x l. holding_values σ 0 (length ts) x.0 l ∙ ap (λ (j : ℕ). σ (nm j)) (zero_first x.0))
+    (store_back ts vs h e, e, λ x l. holding_values σ 0 (length ts) x.0 l ∙ ap (λ (j : ℕ). σ (nm j)) (zero-add x.0))
   where
-    zero_first : (k : ℕ) → 0 + k ≡ k
-    zero_first k = omega arith
-
     at_name : (k : ℕ) → k < length ts → (v : Val) → σ (nm (0 + k)) ≡ some v → has_type (get_or ts k 0) v ≡ true
-    at_name k l v p = typed (nm k) l v (ap (λ (j : ℕ). σ (nm j)) (sym (zero_first k)) ∙ p)
+    at_name k l v p = typed (nm k) l v (ap (λ (j : ℕ). σ (nm j)) (sym (zero-add k)) ∙ p)

@@ -4,6 +4,7 @@ use mathlib.Core.Path.{◌≡◌, refl, sym, ap, ◌∙◌, subst}
 use mathlib.Core.List.{List, [], ◌∷◌}
 use mathlib.Core.Bool.{Bool, true, false, cond}
 use native.Mathlib.Omega.{arith}
+use Rattle.arith.proofs.Clash.{clash}
 use lib.ListN.{length}
 use lib.Dec.{ltb, eqb}
 use Rattle.arith.specs.Value.{Val, int, float, literal, char, pointer, is_pointer}
@@ -13,7 +14,7 @@ use Rattle.record.specs.Read.{length_field, end}
 use Rattle.record.specs.Decode.{items, behind}
 use Rattle.record.proofs.Takes.{bind_got}
 use Rattle.record.proofs.Decode.{Decodes, field_decodes, give_decodes, bind_decodes, times_decode, length_decodes, end_decodes}
-use Rattle.machine.specs.Machine.{Answer, value}
+use Rattle.machine.specs.Machine.{Answer}
 use Rattle.running.specs.House.{nothing_byte, go_on_byte, halt_byte, word, two_words, plain_behind, value_behind, stored_test, set_behind, stored_behind, stored_value, answer_test, value_answer, answer_behind, house_answer, form_test, in_form, stored, to_end, answers}
 use Rattle.running.specs.Items.{plain_from, behind_type, behind_end, stored_from, stored_end, answer_from, answer_end}
 
@@ -99,7 +100,7 @@ module _ {A : Type 0} (r : Reader A) (s : List ℕ) (one : ℕ → A) (next : �
     where
       go : (xs : List A) → [] ≡ xs → at ≡ q → Row at xs q
       go [] z o = (refl, sym o)
-      go (x ∷ xs) z o = let n : ◌≡◌ {A = ℕ} 0 1 = cc z in absurd (omega arith)
+      go (x ∷ xs) z o = clash (cc z)
 
   one_more :
       (n at : ℕ) (xs : List A) (q : ℕ) →

@@ -13,12 +13,38 @@ use Rattle.record.specs.Form.{Form, pure, new, effect, return, nop, jump, branch
 use Rattle.record.specs.Good.{Each}
 use Rattle.machine.specs.Machine.{Store, Context, Answer, value, go_on, halt, Event, Mach, Step, goes, jumps, ends, tick, assign, happens, read_all, event_of, finish, take_value, answered, perform, ask, acknowledged, tell, leave, choose, bool_in, act, step}
 use Rattle.running.specs.Steps.{Stand, facing, over, Config, first_of, land_in, land, moved, step_from, take_step, steps, start}
-use Rattle.running.proofs.Steps.{mach_of}
+
+abbrev pub mach_of : Step → Mach
+mach_of (goes m) = m
+mach_of (jumps b m) = m
+mach_of (ends s m) = m
 
 -- the answers that are left of a list: all, or all but the first
 pub data Rest : List Answer → List Answer → Type 0 where
   all_left : (xs : List Answer) → Rest xs xs
   one_taken : (x : Answer) (xs : List Answer) → Rest (x ∷ xs) xs
+
+-- P where the run goes on, and Q where it ends
+module _ (P Q : Mach → Type 0) where
+  abbrev pub Comes : Step → Type 0
+  Comes (goes m) = P m
+  Comes (jumps b m) = P m
+  Comes (ends s m) = Q m
+
+  -- an event that takes no answer ends the run
+  abbrev pub Told : {xs ys : List Answer} → Rest xs ys → Mach → Type 0
+  Told (all_left xs) m = Q m
+  Told (one_taken x xs) m = P m
+
+module _ (P : Mach → Type 0) where
+  comes_either : (s : Step) → Comes P P s → P (mach_of s)
+  comes_either (goes m) h = h
+  comes_either (jumps b m) h = h
+  comes_either (ends s m) h = h
+
+  told_either : {xs ys : List Answer} (r : Rest xs ys) (m : Mach) → P m → Told P P r m
+  told_either (all_left xs) m h = h
+  told_either (one_taken x xs) m h = h
 
 module _ (ctx : Context) (i : Instr) where
   -- the values that a step may set dest to, from a store: one computed, one that the world gave, or one that the machine performs itself
@@ -33,93 +59,116 @@ module _ (ctx : Context) (i : Instr) where
     in_effect : (xs : List NameIx) → form ctx.types i ≡ effect xs → read_all σ xs ≡ some vs → Shows σ vs
     in_return : (xs : List NameIx) → form ctx.types i ≡ return xs → read_all σ xs ≡ some vs → Shows σ vs
 
+  -- setting dest keeps P, and so does an event that takes an answer
+  module _
+      (P Q : Mach → Type 0)
+      (ended : (m : Mach) → P m → Q m)
+      (assigned : (m : Mach) (v : Val) → Gives m.store v → P m → P (assign m i.dest v))
+      (added :
+      (m : Mach) (vs : List Val) (xs : List Answer) → Shows m.store vs → (r : Rest m.answers xs) → P m →
+      Told P Q r (happens m (event_of i vs) xs))
+    where
+      finish_comes : (m : Mach) (r : Result) → P m → ((v : Val) → r ≡ ok v → Gives m.store v) → Comes P Q (finish i m r)
+      unfolding finish
+      finish_comes m (ok v) h g = assigned m v (g v refl) h
+      finish_comes m (stops c) h g = ended m h
+      finish_comes m unset h g = ended m h
+
+      take_value_comes : (b : Bool) (m : Mach) (v : Val) → P m → (b ≡ true → Gives m.store v) → Comes P Q (take_value b i m v)
+      unfolding take_value
+      take_value_comes true m v h g = assigned m v (g refl) h
+      take_value_comes false m v h g = ended m h
+
+      answered_comes :
+          (t : ℕ) (m : Mach) (e : Event) (xs : List Answer) →
+          ((ys : List Answer) (r : Rest xs ys) → Told P Q r (happens m e ys)) →
+          ((v : Val) → has_type t v ≡ true → Gives m.store v) →
+          Comes P Q (answered t i m e xs)
+      unfolding answered happens
+      answered_comes t m e [] h g = h [] (all_left [])
+      answered_comes t m e (value v ∷ xs) h g =
+          take_value_comes (has_type t v) (happens m e xs) v (h xs (one_taken (value v) xs)) (g v)
+      answered_comes t m e (go_on ∷ xs) h g = ended (happens m e xs) (h xs (one_taken go_on xs))
+      answered_comes t m e (halt ∷ xs) h g = ended (happens m e xs) (h xs (one_taken halt xs))
+
+      perform_comes :
+          (t : ℕ) (m : Mach) (vs : List Val) (o : Option Val) →
+          P m →
+          Shows m.store vs →
+          ((v : Val) → has_type t v ≡ true → Gives m.store v) →
+          ((v : Val) → o ≡ some v → Gives m.store v) →
+          Comes P Q (perform t i m vs o)
+      unfolding perform
+      perform_comes t m vs (some v) h s g p = assigned m v (p v refl) h
+      perform_comes t m vs none h s g p = answered_comes t m (event_of i vs) m.answers (λ ys r. added m vs ys s r h) g
+
+      ask_comes :
+          (xs : List NameIx) → form ctx.types i ≡ new xs → (m : Mach) (o : Option (List Val)) → read_all m.store xs ≡ o →
+          P m → Comes P Q (ask ctx i m o)
+      unfolding ask
+      ask_comes xs f m none e h = ended m h
+      ask_comes xs f m (some vs) e h =
+          perform_comes (ctx.types i.dest) m vs (ctx.performs i.code vs) h (in_new xs f e) (λ v q. told xs f q)
+          (λ v q. performed xs vs f q)
+
+      acknowledged_comes :
+          (m : Mach) (e : Event) (xs : List Answer) → ((ys : List Answer) (r : Rest xs ys) → Told P Q r (happens m e ys)) →
+          Comes P Q (acknowledged m e xs)
+      unfolding acknowledged
+      acknowledged_comes m e [] h = h [] (all_left [])
+      acknowledged_comes m e (value v ∷ xs) h = ended (happens m e xs) (h xs (one_taken (value v) xs))
+      acknowledged_comes m e (go_on ∷ xs) h = h xs (one_taken go_on xs)
+      acknowledged_comes m e (halt ∷ xs) h = ended (happens m e xs) (h xs (one_taken halt xs))
+
+      tell_comes : (m : Mach) (o : Option (List Val)) → ((vs : List Val) → o ≡ some vs → Shows m.store vs) → P m → Comes P Q (tell i m o)
+      unfolding tell
+      tell_comes m none s h = ended m h
+      tell_comes m (some vs) s h = acknowledged_comes m (event_of i vs) m.answers (λ ys r. added m vs ys (s vs refl) r h)
+
+      leave_comes : (m : Mach) (o : Option (List Val)) → ((vs : List Val) → o ≡ some vs → Shows m.store vs) → P m → Comes P Q (leave i m o)
+      unfolding leave
+      leave_comes m none s h = ended m h
+      leave_comes m (some vs) s h = added m vs m.answers (s vs refl) (all_left m.answers) h
+
+      choose_comes : (b c : ℕ) (m : Mach) (o : Option Bool) → P m → Comes P Q (choose b c m o)
+      unfolding choose
+      choose_comes b c m none h = ended m h
+      choose_comes b c m (some true) h = h
+      choose_comes b c m (some false) h = h
+
+      act_comes : (m : Mach) (f : Form) → form ctx.types i ≡ f → P m → Comes P Q (act ctx i m f)
+      unfolding act
+      act_comes m (pure e) f h = finish_comes m (eval m.store e) h (λ v q. computed e f q)
+      act_comes m (new xs) f h = ask_comes xs f m (read_all m.store xs) refl h
+      act_comes m (effect xs) f h = tell_comes m (read_all m.store xs) (λ vs q. in_effect xs f q) h
+      act_comes m (return xs) f h = leave_comes m (read_all m.store xs) (λ vs q. in_return xs f q) h
+      act_comes m nop f h = h
+      act_comes m (jump b) f h = h
+      act_comes m (branch a b c) f h = choose_comes b c m (bool_in (m.store a)) h
+
+      pub step_comes : (m : Mach) → P (tick m) → Comes P Q (step ctx i m)
+      unfolding step
+      step_comes m h = act_comes (tick m) (form ctx.types i) refl h
+
+  -- "A step does one instruction and counts one, also when it stops."
+  pub step_counts : (m : Mach) → (mach_of (step ctx i m)).steps ≡ suc m.steps
+  unfolding tick assign happens
+  step_counts m =
+      let P : Mach → Type 0 = λ n. n.steps ≡ suc m.steps in
+      comes_either P (step ctx i m)
+      (step_comes P P (λ n h. h) (λ n v g h. h) (λ n vs xs s r h. told_either P r (happens n (event_of i vs) xs) h) m refl)
+
   -- what a step of i does to a machine keeps P
   pub record Keeps (P : Mach → Type 0) : Type 0 where
     pub ticked : (m : Mach) → P m → P (tick m)
     pub assigned : (m : Mach) (v : Val) → Gives m.store v → P m → P (assign m i.dest v)
     pub added : (m : Mach) (vs : List Val) (xs : List Answer) → Shows m.store vs → Rest m.answers xs → P m → P (happens m (event_of i vs) xs)
 
-  module _ (P : Mach → Type 0) (k : Keeps P) where
-    finish_keeps : (m : Mach) (r : Result) → P m → ((v : Val) → r ≡ ok v → Gives m.store v) → P (mach_of (finish i m r))
-    unfolding finish
-    finish_keeps m (ok v) h g = k.assigned m v (g v refl) h
-    finish_keeps m (stops c) h g = h
-    finish_keeps m unset h g = h
-
-    take_value_keeps : (b : Bool) (m : Mach) (v : Val) → P m → (b ≡ true → Gives m.store v) → P (mach_of (take_value b i m v))
-    unfolding take_value
-    take_value_keeps true m v h g = k.assigned m v (g refl) h
-    take_value_keeps false m v h g = h
-
-    answered_keeps :
-        (t : ℕ) (m : Mach) (e : Event) (xs : List Answer) →
-        ((ys : List Answer) → Rest xs ys → P (happens m e ys)) →
-        ((v : Val) → has_type t v ≡ true → Gives m.store v) →
-        P (mach_of (answered t i m e xs))
-    unfolding answered happens
-    answered_keeps t m e [] h g = h [] (all_left [])
-    answered_keeps t m e (value v ∷ xs) h g =
-        take_value_keeps (has_type t v) (happens m e xs) v (h xs (one_taken (value v) xs)) (g v)
-    answered_keeps t m e (go_on ∷ xs) h g = h xs (one_taken go_on xs)
-    answered_keeps t m e (halt ∷ xs) h g = h xs (one_taken halt xs)
-
-    perform_keeps :
-        (t : ℕ) (m : Mach) (vs : List Val) (o : Option Val) →
-        P m →
-        Shows m.store vs →
-        ((v : Val) → has_type t v ≡ true → Gives m.store v) →
-        ((v : Val) → o ≡ some v → Gives m.store v) →
-        P (mach_of (perform t i m vs o))
-    unfolding perform
-    perform_keeps t m vs (some v) h s g p = k.assigned m v (p v refl) h
-    perform_keeps t m vs none h s g p = answered_keeps t m (event_of i vs) m.answers (λ ys r. k.added m vs ys s r h) g
-
-    ask_keeps :
-        (xs : List NameIx) → form ctx.types i ≡ new xs → (m : Mach) (o : Option (List Val)) → read_all m.store xs ≡ o →
-        P m → P (mach_of (ask ctx i m o))
-    unfolding ask
-    ask_keeps xs f m none e h = h
-    ask_keeps xs f m (some vs) e h =
-        perform_keeps (ctx.types i.dest) m vs (ctx.performs i.code vs) h (in_new xs f e) (λ v q. told xs f q)
-        (λ v q. performed xs vs f q)
-
-    acknowledged_keeps :
-        (m : Mach) (e : Event) (xs : List Answer) → ((ys : List Answer) → Rest xs ys → P (happens m e ys)) → P (mach_of (acknowledged m e xs))
-    unfolding acknowledged
-    acknowledged_keeps m e [] h = h [] (all_left [])
-    acknowledged_keeps m e (value v ∷ xs) h = h xs (one_taken (value v) xs)
-    acknowledged_keeps m e (go_on ∷ xs) h = h xs (one_taken go_on xs)
-    acknowledged_keeps m e (halt ∷ xs) h = h xs (one_taken halt xs)
-
-    tell_keeps : (m : Mach) (o : Option (List Val)) → ((vs : List Val) → o ≡ some vs → Shows m.store vs) → P m → P (mach_of (tell i m o))
-    unfolding tell
-    tell_keeps m none s h = h
-    tell_keeps m (some vs) s h = acknowledged_keeps m (event_of i vs) m.answers (λ ys r. k.added m vs ys (s vs refl) r h)
-
-    leave_keeps : (m : Mach) (o : Option (List Val)) → ((vs : List Val) → o ≡ some vs → Shows m.store vs) → P m → P (mach_of (leave i m o))
-    unfolding leave
-    leave_keeps m none s h = h
-    leave_keeps m (some vs) s h = k.added m vs m.answers (s vs refl) (all_left m.answers) h
-
-    choose_keeps : (b c : ℕ) (m : Mach) (o : Option Bool) → P m → P (mach_of (choose b c m o))
-    unfolding choose
-    choose_keeps b c m none h = h
-    choose_keeps b c m (some true) h = h
-    choose_keeps b c m (some false) h = h
-
-    act_keeps : (m : Mach) (f : Form) → form ctx.types i ≡ f → P m → P (mach_of (act ctx i m f))
-    unfolding act
-    act_keeps m (pure e) f h = finish_keeps m (eval m.store e) h (λ v q. computed e f q)
-    act_keeps m (new xs) f h = ask_keeps xs f m (read_all m.store xs) refl h
-    act_keeps m (effect xs) f h = tell_keeps m (read_all m.store xs) (λ vs q. in_effect xs f q) h
-    act_keeps m (return xs) f h = leave_keeps m (read_all m.store xs) (λ vs q. in_return xs f q) h
-    act_keeps m nop f h = h
-    act_keeps m (jump b) f h = h
-    act_keeps m (branch a b c) f h = choose_keeps b c m (bool_in (m.store a)) h
-
-    pub step_keeps : (m : Mach) → P m → P (mach_of (step ctx i m))
-    unfolding step
-    step_keeps m h = act_keeps (tick m) (form ctx.types i) refl (k.ticked m h)
+  pub step_keeps : (P : Mach → Type 0) → Keeps P → (m : Mach) → P m → P (mach_of (step ctx i m))
+  step_keeps P k m h =
+      comes_either P (step ctx i m)
+      (step_comes P P (λ n h. h) k.assigned
+      (λ n vs xs s r h. told_either P r (happens n (event_of i vs) xs) (k.added n vs xs s r h)) m (k.ticked m h))
 
 -- ---- a run; Q: what the instructions of the blocks satisfy
 module _ (ctx : Context) (P : Mach → Type 0) (Q : Instr → Type 0) (k : (i : Instr) → Q i → Keeps ctx i P) where

@@ -3,19 +3,20 @@
 use Prim.Native.Nat.{ℕ, ◌≤◌}
 use mathlib.Core.Path.{◌≡◌, refl, sym, ap, ◌∙◌}
 use mathlib.Core.Logic.{◌≢◌}
-use mathlib.Core.Bool.{Bool, true, false, cond, ◌||◌}
+use mathlib.Core.Bool.{Bool, true, false, cond}
 use mathlib.Core.List.{List}
 use native.Mathlib.Omega.{arith}
+use Rattle.arith.proofs.Clash.{clash}
 use lib.ListN.{length, drop, length-append, length-drop}
 use lib.Dec.{ltb}
 use lib.Seq.{drop-append_seam}
 use borrow.Author.Tests.{ltb-false}
+use Rattle.std.proofs.lemmas.Bool.{or_parts}
 use Rattle.record.specs.Record.{function, plain, names_of, limits, id_bytes}
 use Rattle.running.specs.declared.Ending.{Ending}
 use Rattle.std.specs.Prelude.{Ok, Err}
-use Rattle.record.specs.Answer.{fault_at}
 use Rattle.running.specs.Engine.{Ran, done}
-use Rattle.running.specs.declared.RunError.TheVariants.{Refused, Unfit, Room}
+use Rattle.running.specs.declared.RunError.TheVariants.{Room}
 use Rattle.running.specs.House.{values_from, store_bytes, events_bytes}
 use Rattle.running.specs.Engine.{Outcome, refused, unfit, ran, outcome, ending_of, events_left, store_left, too_short, result, written, events_out, store_out, engine, engine_events, engine_store}
 use Rattle.running.proofs.Engine.{engine_is_machine}
@@ -42,13 +43,9 @@ outcome_untouched events left (ran w N c) h =
         (done (length (events_left w c)) (length (store_left N c)) c.mach.steps (ending_of c.stand))) ≡ false →
         (cond b events (written (events_left w c) events) ≡ events) × (cond b left (written (store_left N c) left) ≡ left)
     go true h = (refl, refl)
-    go false h = let z : ◌≡◌ {A = ℕ} 0 1 = cc h in absurd (omega arith)
+    go false h = clash (cc h)
 
 -- ---- lengths
-or_neither : (a b : Bool) → (a || b) ≡ false → (a ≡ false) × (b ≡ false)
-or_neither true b e = let z : ◌≡◌ {A = ℕ} 0 1 = cc e in absurd (omega arith)
-or_neither false b e = (refl, e)
-
 written_length : (bytes lent : List ℕ) → length bytes ≤ length lent → length (written bytes lent) ≡ length lent
 written_length bytes lent h =
     omega (arith, length-append bytes (drop (length bytes) lent), length-drop (length bytes) lent, h)
@@ -72,7 +69,7 @@ outcome_lengths events left (ran w N c) =
         (length (cond b left (written (store_left N c) left)) ≡ length left)
     go true e = (refl, refl)
     go false e =
-        let h = or_neither (ltb (length events) (length (events_left w c))) (ltb (length left) (length (store_left N c))) e in (
+        let h = or_parts (ltb (length events) (length (events_left w c))) (ltb (length left) (length (store_left N c))) e in (
           written_length (events_left w c) events (ltb-false (length events) (length (events_left w c)) h.0),
           written_length (store_left N c) left (ltb-false (length left) (length (store_left N c)) h.1),
         )

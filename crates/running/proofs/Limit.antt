@@ -6,12 +6,14 @@ use mathlib.Core.Logic.{◌↔◌}
 use mathlib.Core.Option.{Option, none, some}
 use mathlib.Core.List.{List, [], ◌∷◌}
 use native.Mathlib.Omega.{arith}
+use Rattle.arith.proofs.Clash.{clash}
 use native.Mathlib.Decide.{dec_le}
 use lib.ListN.{drop}
 use Rattle.record.specs.Record.{Instr, Block}
 use Rattle.machine.specs.Machine.{Store, Context, Answer, Stop, at_end, Mach, Step, goes, jumps, ends, step, Out, falls, leaps, breaks, after, run_block, Place, before, stopped, Run, nth, arrived, arrive, passes, through, advance_from, advance, begin, iterate, run_with}
 use Rattle.running.specs.Steps.{Stand, facing, over, Config, running, moved, step_from, take_step, steps, start, stand_at}
-use Rattle.running.proofs.Steps.{mach_of, step_counts, steps_steps, over_stays, run_reaches}
+use Rattle.running.proofs.Kept.{mach_of, step_counts}
+use Rattle.running.proofs.Steps.{steps_steps, over_stays, run_reaches}
 
 module _ (ctx : Context) (bs : List (Block Instr)) where
   -- ---- what k steps count
@@ -48,7 +50,7 @@ module _ (ctx : Context) (bs : List (Block Instr)) where
           let t : take_step ctx bs c ≡ record { stand = over s; mach = c.mach } = ap (step_from ctx bs c.mach) e in
           let u : running (steps ctx bs k (take_step ctx bs c)).stand ≡ false =
           ap (λ (d : Config). running (steps ctx bs k d).stand) t ∙ ap (λ (d : Config). running d.stand) (over_stays ctx bs k s c.mach) in
-          let z : ◌≡◌ {A = ℕ} 0 1 = cc in absurd (omega arith)
+          clash (cc)
 
   -- what is over after j steps is the same after any more
   pub stays : (j k : ℕ) (c : Config) (s : Stop) → j ≤ k → (steps ctx bs j c).stand ≡ over s → steps ctx bs k c ≡ steps ctx bs j c
@@ -280,7 +282,7 @@ module _ (ctx : Context) (bs : List (Block Instr)) where
             let q : (by_steps limit).stand ≡ over s =
             ap (λ (c : Config). c.stand) (stays (by_blocks n).mach.steps limit (start bs σ xs) s l d) ∙ d in
             let r : false ≡ true = sym (ap running q) ∙ h in
-            let z : ◌≡◌ {A = ℕ} 0 1 = cc r in absurd (omega arith)
+            clash (cc r)
         within n s b p e h (no l) = omega (arith, l)
 
         spent :

@@ -1,8 +1,8 @@
 -- A run that was cut by the limit goes on from what it left: anywhere, from its configuration (`steps_steps`); and from its store and the
 -- rest of its answers alone where it stands as block 0 begins, since a call starts there.
 use Prim.Native.Nat.{ℕ, zero, suc, ◌+◌}
-use mathlib.Core.Path.{◌≡◌, refl, sym, ap, ◌∙◌}
-use mathlib.Core.Bool.{Bool, true, false, not, ◌||◌}
+use mathlib.Core.Path.{◌≡◌, sym, ap, ◌∙◌}
+use mathlib.Core.Bool.{Bool, not, ◌||◌, or_assoc}
 use mathlib.Core.List.{List, [], ◌++◌, append-nil}
 use native.Mathlib.Omega.{arith}
 use Rattle.record.specs.Record.{Instr, Block}
@@ -24,10 +24,6 @@ start_shifted bs c e =
     λ i. record { stand = e i; mach = record { store = m.store; answers = m.answers; events = p i; steps = q i } }
 
 module _ (ctx : Context) (bs : List (Block Instr)) where
-  or_assoc : (a b c : Bool) → (a || (b || c)) ≡ ((a || b) || c)
-  or_assoc true b c = refl
-  or_assoc false b c = refl
-
   -- the first j + k steps: the first j, and k from there
   pub unfit_steps :
       (j k : ℕ) (c : Config) → unfit_within ctx bs (j + k) c ≡ (unfit_within ctx bs j c || unfit_within ctx bs k (steps ctx bs j c))
@@ -39,7 +35,7 @@ module _ (ctx : Context) (bs : List (Block Instr)) where
       let a = not (fits_at ctx c.mach c.stand) in
       ap (λ (n : ℕ). unfit_within ctx bs n c) e
       ∙ ap (λ (b : Bool). a || b) (unfit_steps j k d)
-      ∙ or_assoc a (unfit_within ctx bs j d) (unfit_within ctx bs k (steps ctx bs j d))
+      ∙ sym (or_assoc a (unfit_within ctx bs j d) (unfit_within ctx bs k (steps ctx bs j d)))
 
   -- "goes on where the run left off": k steps more are k steps from the store and the answers that were left, behind the events and steps
   module _ (σ : Store) (xs : List Answer) (limit k : ℕ) where

@@ -1,95 +1,15 @@
 -- What the run by blocks has, the run by steps has after as many steps as were counted.
 use Prim.Native.Nat.{ℕ, zero, suc, ◌+◌}
 use mathlib.Core.Path.{◌≡◌, refl, sym, ap, ◌∙◌}
-use mathlib.Core.Bool.{Bool, true, false}
 use mathlib.Core.Option.{Option, none, some}
 use mathlib.Core.List.{List, [], ◌∷◌}
 use native.Mathlib.Omega.{arith}
 use native.Mathlib.Nat.{add-zero}
 use lib.ListN.{drop}
-use Rattle.arith.specs.Value.{Val, has_type}
-use Rattle.arith.specs.Operation.{Result, ok, stops, unset}
 use Rattle.record.specs.Record.{Instr, Block}
-use Rattle.record.specs.Form.{Form, pure, new, effect, return, nop, jump, branch, form}
-use Rattle.machine.specs.Machine.{Store, Context, Answer, value, go_on, halt, Event, Stop, at_end, Mach, Step, goes, jumps, ends, tick, assign, happens, finish, take_value, answered, perform, ask, acknowledged, tell, leave, choose, act, step, Out, falls, leaps, breaks, after, run_block, Place, before, stopped, Run, nth, arrived, arrive, passes, through, advance_from, advance, begin, iterate, run_with}
+use Rattle.machine.specs.Machine.{Store, Context, Answer, Stop, at_end, Mach, Step, goes, jumps, ends, step, Out, falls, leaps, breaks, after, run_block, Place, before, stopped, Run, nth, arrived, arrive, passes, through, advance_from, advance, begin, iterate, run_with}
+use Rattle.running.proofs.Kept.{mach_of, step_counts}
 use Rattle.running.specs.Steps.{Stand, over, Config, first_of, land_in, land, moved, take_step, steps, start, stand_at, config_of}
-
--- ---- a step counts one
-abbrev pub mach_of : Step → Mach
-mach_of (goes m) = m
-mach_of (jumps b m) = m
-mach_of (ends s m) = m
-
--- what a step does keeps the count
-module _ (n : ℕ) where
-  Keeps : Step → Type 0
-  Keeps s = (mach_of s).steps ≡ n
-
-  take_value_keeps : (b : Bool) (i : Instr) (m : Mach) (v : Val) → m.steps ≡ n → Keeps (take_value b i m v)
-  unfolding Keeps take_value assign
-  take_value_keeps true i m v h = h
-  take_value_keeps false i m v h = h
-
-  answered_keeps : (t : ℕ) (i : Instr) (m : Mach) (e : Event) (xs : List Answer) → m.steps ≡ n → Keeps (answered t i m e xs)
-  unfolding Keeps answered happens
-  answered_keeps t i m e [] h = h
-  answered_keeps t i m e (value v ∷ xs) h = take_value_keeps (has_type t v) i (happens m e xs) v h
-  answered_keeps t i m e (go_on ∷ xs) h = h
-  answered_keeps t i m e (halt ∷ xs) h = h
-
-  perform_keeps : (t : ℕ) (i : Instr) (m : Mach) (vs : List Val) (o : Option Val) → m.steps ≡ n → Keeps (perform t i m vs o)
-  unfolding Keeps perform assign
-  perform_keeps t i m vs (some v) h = h
-  perform_keeps t i m vs none h = answered_keeps t i m _ m.answers h
-
-  ask_keeps : (ctx : Context) (i : Instr) (m : Mach) (o : Option (List Val)) → m.steps ≡ n → Keeps (ask ctx i m o)
-  unfolding Keeps ask
-  ask_keeps ctx i m none h = h
-  ask_keeps ctx i m (some vs) h = perform_keeps _ i m vs _ h
-
-  acknowledged_keeps : (m : Mach) (e : Event) (xs : List Answer) → m.steps ≡ n → Keeps (acknowledged m e xs)
-  unfolding Keeps acknowledged happens
-  acknowledged_keeps m e [] h = h
-  acknowledged_keeps m e (value v ∷ xs) h = h
-  acknowledged_keeps m e (go_on ∷ xs) h = h
-  acknowledged_keeps m e (halt ∷ xs) h = h
-
-  tell_keeps : (i : Instr) (m : Mach) (o : Option (List Val)) → m.steps ≡ n → Keeps (tell i m o)
-  unfolding Keeps tell
-  tell_keeps i m none h = h
-  tell_keeps i m (some vs) h = acknowledged_keeps m _ m.answers h
-
-  leave_keeps : (i : Instr) (m : Mach) (o : Option (List Val)) → m.steps ≡ n → Keeps (leave i m o)
-  unfolding Keeps leave happens
-  leave_keeps i m none h = h
-  leave_keeps i m (some vs) h = h
-
-  choose_keeps : (b c : ℕ) (m : Mach) (o : Option Bool) → m.steps ≡ n → Keeps (choose b c m o)
-  unfolding Keeps choose
-  choose_keeps b c m none h = h
-  choose_keeps b c m (some true) h = h
-  choose_keeps b c m (some false) h = h
-
-  finish_keeps : (i : Instr) (m : Mach) (r : Result) → m.steps ≡ n → Keeps (finish i m r)
-  unfolding Keeps finish assign
-  finish_keeps i m (ok v) h = h
-  finish_keeps i m (stops c) h = h
-  finish_keeps i m unset h = h
-
-  act_keeps : (ctx : Context) (i : Instr) (m : Mach) (f : Form) → m.steps ≡ n → Keeps (act ctx i m f)
-  unfolding Keeps act
-  act_keeps ctx i m (pure e) h = finish_keeps i m _ h
-  act_keeps ctx i m (new xs) h = ask_keeps ctx i m _ h
-  act_keeps ctx i m (effect xs) h = tell_keeps i m _ h
-  act_keeps ctx i m (return xs) h = leave_keeps i m _ h
-  act_keeps ctx i m nop h = h
-  act_keeps ctx i m (jump b) h = h
-  act_keeps ctx i m (branch a b c) h = choose_keeps b c m _ h
-
--- "A step does one instruction and counts one, also when it stops."
-pub step_counts : (ctx : Context) (i : Instr) (m : Mach) → (mach_of (step ctx i m)).steps ≡ suc m.steps
-unfolding step tick Keeps
-step_counts ctx i m = act_keeps (suc m.steps) ctx i (tick m) (form ctx.types i) refl
 
 -- ---- landing
 abbrev landed : Option (Block Instr) → ℕ → Stand → Stand

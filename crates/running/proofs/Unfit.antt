@@ -15,23 +15,18 @@ use Rattle.record.specs.Reader.{Res, got, fault, times}
 use Rattle.record.specs.Typing.{accept}
 use Rattle.record.proofs.Gives.{Gives, any_gives, times_gives}
 use Rattle.machine.specs.Machine.{Store, Context, plain_machine, Answer, at_halt}
-use Rattle.std.specs.Prelude.{Ok, Err}
-use Rattle.record.specs.Answer.{fault_at}
-use Rattle.running.specs.Engine.{Ran, done}
-use Rattle.running.specs.declared.RunError.TheVariants.{Refused, Unfit, Room}
+use Rattle.std.specs.Prelude.{Err}
+use Rattle.running.specs.declared.RunError.TheVariants.{Unfit}
 use Rattle.running.specs.Steps.{Config, take_step, steps, start}
 use Rattle.running.specs.House.{stored_value, in_form, stored, answers, of_type, of_types}
 use Rattle.running.specs.Engine.{fits_at, unfit_within, unfit, ran, starting, running_for, with_inputs, with_read, with_record, outcome, engine}
+use Rattle.std.proofs.lemmas.Bool.{and_right, or_right}
 use Rattle.running.proofs.Limit.{steps_at_most, Ends, steps_reach}
 use Rattle.running.proofs.Engine.{Given, unfit_within_halts}
 use Rattle.running.proofs.Given.{form_gives}
 use Rattle.running.proofs.Cases.{store_unread, answers_unread, engine_unfit, result_unfit}
 
 -- ---- "a stored value is not of its name's type"
-and_false : (a b : Bool) → b ≡ false → (a && b) ≡ false
-and_false true b e = e
-and_false false b e = refl
-
 pub record WrongType (ts : List ℕ) (vs : List (Option Val)) : Type 0 where
   pub name : ℕ
   pub held : Val
@@ -66,7 +61,7 @@ wrong_of_types (t ∷ ts) [] k v h w = refl
 wrong_of_types (t ∷ ts) (o ∷ vs) zero v h w =
     let e : of_type t o ≡ false = ap (of_type t) h ∙ w in
     ap (λ (b : Bool). b && of_types ts vs) e
-wrong_of_types (t ∷ ts) (o ∷ vs) (suc k) v h w = and_false (of_type t o) (of_types ts vs) (wrong_of_types ts vs k v h w)
+wrong_of_types (t ∷ ts) (o ∷ vs) (suc k) v h w = and_right (of_type t o) (of_types ts vs) (wrong_of_types ts vs k v h w)
 
 -- a store that reads has a value or nothing for each name
 stored_length : (N : ℕ) (s : List ℕ) (vs : List (Option Val)) (p : ℕ) → stored N s 0 ≡ got vs p → length vs ≡ N
@@ -105,11 +100,7 @@ module _ (ctx : Context) (bs : List (Block Instr)) where
   unfolding unfit_within steps
   at_within zero c j l h = absurd (omega (arith, l))
   at_within (suc k) c zero l h = ap (λ (b : Bool). not b || unfit_within ctx bs k (take_step ctx bs c)) h
-  at_within (suc k) c (suc j) l h = or_later (not (fits_at ctx c.mach c.stand)) _ (at_within k (take_step ctx bs c) j (omega (arith, l)) h)
-    where
-      or_later : (a b : Bool) → b ≡ true → (a || b) ≡ true
-      or_later true b e = refl
-      or_later false b e = e
+  at_within (suc k) c (suc j) l h = or_right (not (fits_at ctx c.mach c.stand)) _ (at_within k (take_step ctx bs c) j (omega (arith, l)) h)
 
 -- such a run by blocks halts within the limit, so that 13 and "does what the plain machine does" do not clash
 pub unfit_would_halt :
@@ -171,7 +162,7 @@ module _ (s store list : List ℕ) (limit : ℕ) (r : Record Placed) where
         typed_or_not vs q h (wrong_of_types f.types vs w.name w.held w.holds w.wrong) (answers list 0) refl
     why_unfit (does_not_fit vs q h xs o a u) =
         let e = at_within (plain_machine f) f.blocks limit (starting f vs xs) u.step u.within u.unfits in
-        engine_unfit s store list limit events left (given vs q h xs o a) (and_false (of_types f.types vs) _ (ap not e))
+        engine_unfit s store list limit events left (given vs q h xs o a) (and_right (of_types f.types vs) _ (ap not e))
 
     -- ---- what is refused is so
     inputs_why :

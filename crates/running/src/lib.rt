@@ -36,7 +36,7 @@ pub enum RunError {
 }
 
 impl RunError {
-    // Its number.
+    // Its number. RunError is not of numbering's trait Refuses, by which a refusal has one value: 14 goes with two.
     #[tactic(auto, unfolding(crate::specs::Engine::engine_answer))]
     pub fn number(self) -> u8
         ensures { result ≡ (engine_answer (Err self)).number }

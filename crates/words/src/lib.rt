@@ -1,9 +1,7 @@
-// Arithmetic on ints by their words, as arith's specs/Word.antt has it, and i64 to words and back.
+// Arithmetic on ints by their words, as arith's specs/Word.antt has it.
 #![tactic(auto)]
 
 ghost use Rattle.std.specs.Prelude.{◌≡◌, ◌<◌};
-ghost use Rattle.std.specs.Int.{w64};
-ghost use Rattle.std.proofs.Common.{to_z, of_z};
 ghost use Rattle.arith.specs.Word.{add_w, sub_w, mul_w, div_w, lt_w, negative, size};
 ghost use Rattle.arith.specs.Operation.{divide};
 ghost use Rattle.words.specs.View.{quotient_of, result_of};
@@ -32,7 +30,7 @@ pub fn mul(a: u64, b: u64) -> u64
     a.wrapping_mul(b)
 }
 
-// Whether a word is that of an int below zero.
+// Whether a word is that of an int below zero. Nothing calls this or `size`: they say in code what `div_w` of arith is made of.
 pub fn negative(a: u64) -> bool
     ensures { result ≡ negative a }
 {
@@ -47,6 +45,7 @@ pub fn size(a: u64) -> u64
 }
 
 // The quotient toward zero, modulo 2^64, where the divisor is not 0.
+#[tactic(auto, using(crate::proofs::Division::quotient))]
 pub fn div(a: u64, b: u64) -> u64
     requires { 0 < b }
     ensures { result ≡ div_w a b }
@@ -57,6 +56,7 @@ pub fn div(a: u64, b: u64) -> u64
 }
 
 // The quotient's word; a division by 0 stops, and has none.
+#[tactic(auto, unfolding(arith::specs::Operation::divide, crate::specs::View::quotient_of, crate::specs::View::result_of))]
 pub fn divide(a: u64, b: u64) -> Option<u64>
     ensures { quotient_of result ≡ result_of (divide a b) }
 {
@@ -67,22 +67,9 @@ pub fn divide(a: u64, b: u64) -> Option<u64>
 }
 
 // Whether a is less than b as a signed int.
+#[tactic(auto, using(crate::proofs::Division::order))]
 pub fn less(a: u64, b: u64) -> bool
     ensures { result ≡ lt_w a b }
 {
     a.cast_signed() < b.cast_signed()
-}
-
-// The word of x.
-pub fn bits_of(x: i64) -> u64
-    ensures { result ≡ of_z w64 x }
-{
-    x.cast_unsigned()
-}
-
-// The int whose word is b.
-pub fn of_bits(b: u64) -> i64
-    ensures { result ≡ to_z w64 b }
-{
-    b.cast_signed()
 }

@@ -8,7 +8,7 @@ use lib.ListN.{length, length-append}
 use Rattle.record.specs.Write.{be}
 use Rattle.numbering.specs.Made.{digits}
 use Rattle.numbering.proofs.Digits.{digits_one, digits_more, by_tenths}
-use Rattle.write_bytes.specs.Put.{put, most_digits}
+use Rattle.write_bytes.specs.Put.{put}
 use Rattle.write_bytes.proofs.Put.{put_before}
 
 -- ---- how many there are

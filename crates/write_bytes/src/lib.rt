@@ -61,8 +61,7 @@ pub fn put_u64(out: &mut [u8], at: usize, x: u64)
     put_be::<8>(out, at, x);
 }
 
-// x in w bytes: an id. w is a number, as the definitions take it: an enum of the widths would be turned into it at each use, and would not grow
-// with the version of a record.
+// x in w bytes: an id. w says how many bytes an id has, with which places are counted, as `at + w + 1` behind id and code: a number, and no kind.
 pub fn put_word(out: &mut [u8], at: usize, w: usize, x: u64)
     requires { IdWidth w × (x < 256 ^ w) }
     ensures { out.new ≡ put out.old at (be w x) }
@@ -70,7 +69,7 @@ pub fn put_word(out: &mut [u8], at: usize, w: usize, x: u64)
     if w == 8 {
         put_u64(out, at, x);
     } else {
-        // as: a number that is known to fit, or u64 and usize, which have no From; try_from would hand out an error that cannot be.
+        // as: the number fits, or u64 and usize have no From; try_from would give an error that cannot happen.
         put_u32(out, at, x as u32);
     }
 }

@@ -10,7 +10,7 @@ ghost use Rattle.record.specs.View.{code_of, instr_of};
 ghost use Rattle.record.specs.Sizes.{longest_operands, longest_instr};
 ghost use Rattle.read_fields.specs.Places.{places};
 ghost use Rattle.write_bytes.specs.Put.{Wrote, IdWidth};
-ghost use Rattle.write_instrs.specs.There.{if_there, value_bytes};
+ghost use Rattle.write_instrs.specs.There.{literal_size, longest_arguments, if_there, value_bytes};
 
 use record::{Instruction, Literal, Shape};
 
@@ -43,8 +43,8 @@ fn put_row(out: &mut [u8], at: usize, row: &[u16]) -> usize
 
 // A literal.
 fn put_literal(out: &mut [u8], at: usize, l: Literal) -> usize
-    requires { at + 9 < places }
-    ensures { Wrote out.old out.new at result (literal_bytes (literal_of l)) × (result ≡ at + 9) }
+    requires { at + literal_size < places }
+    ensures { Wrote out.old out.new at result (literal_bytes (literal_of l)) × (result ≡ at + literal_size) }
 {
     write_bytes::put_u8(out, at, codes::literal_kind(l));
     write_bytes::put_u64(out, at + 1, codes::literal_bits(l));
@@ -53,18 +53,18 @@ fn put_literal(out: &mut [u8], at: usize, l: Literal) -> usize
 
 // The arguments behind their count.
 fn put_args(out: &mut [u8], at: usize, args: &[u16]) -> usize
-    requires { (at + 17 < places) × (length args.now ≤ 8) }
-    ensures { Wrote out.old out.new at result (argument_bytes (map nm args.now)) × (result ≤ at + 17) }
+    requires { (at + longest_arguments < places) × (length args.now ≤ 8) }
+    ensures { Wrote out.old out.new at result (argument_bytes (map nm args.now)) × (result ≤ at + longest_arguments) }
 {
-    // as: a number that is known to fit, or u64 and usize, which have no From; try_from would hand out an error that cannot be.
+    // as: the number fits, or u64 and usize have no From; try_from would give an error that cannot happen.
     write_bytes::put_u8(out, at, args.len() as u8);
     put_row(out, at + 1, args)
 }
 
 // The literal, or the arguments where there is none.
 fn put_value(out: &mut [u8], at: usize, literal: bool, i: &Instruction) -> usize
-    requires { at + 17 < places }
-    ensures { Wrote out.old out.new at result (value_bytes literal (instr_of i.now)) × (result ≤ at + 17) }
+    requires { at + longest_arguments < places }
+    ensures { Wrote out.old out.new at result (value_bytes literal (instr_of i.now)) × (result ≤ at + longest_arguments) }
 {
     if literal {
         put_literal(out, at, i.literal)
@@ -89,7 +89,7 @@ pub fn put_instr(out: &mut [u8], at: usize, w: usize, i: Instruction) -> usize
     requires { (at + longest_instr < places) × (IdWidth w × (i.id < 256 ^ w)) }
     ensures { Wrote out.old out.new at result (instr_bytes w (instr_of i)) × (result ≤ at + longest_instr) }
 {
-    let code = codes::code_of(i.op);
+    let code = u8::from(i.op);
     write_bytes::put_word(out, at, w, i.id);
     write_bytes::put_u8(out, at + w, code);
     put_operands(out, at + w + 1, read_shapes::shape_of(u64::from(code)), &i)

@@ -31,7 +31,7 @@ pub fn copy_names(s: &[u8], out: &mut [u8], end: usize) -> usize
 
 // ---- made names
 // A record's bytes, and the table of the places of its names.
-#[derive(Clone, Copy)]
+#[derive(Clone, Copy, PartialEq, Eq, Debug)]
 pub struct Names<'a> {
     pub bytes: &'a [u8],
     pub places: &'a [u32],
@@ -39,15 +39,15 @@ pub struct Names<'a> {
 }
 
 impl<'a> Names<'a> {
-    // x < names_count self.bytes.now is asked by three methods: x is one of a list of plain numbers, and no field.
-    // k < most_made by two, and by two of write_bytes: k counts the made names as they are written, and is no field either.
+    // x < names_count self.bytes.now is asked by three methods: x comes from a list of u16, so no type can say that it is below the count.
+    // k < most_made by two, and by two of write_bytes: k counts the made names as they are written, so no type can say that it is below most_made.
 
     // The place of the name x, by the table, which has one of each name.
     fn place(self, x: u16) -> usize
         requires { x < names_count self.bytes.now }
         ensures { (result ≡ behind (name_end self.entry.bytes.now) 8 x) × (result < places_end) }
     {
-        // as: a number that is known to fit, or u64 and usize, which have no From; try_from would hand out an error that cannot be.
+        // as: the number fits, or u64 and usize have no From; try_from would give an error that cannot happen.
         self.places.get(usize::from(x)).map_or(0, |p| *p as usize)
     }
 
@@ -59,8 +59,9 @@ impl<'a> Names<'a> {
             × (result ≤ at + longest_made) }
     {
         let p = self.place(x);
-        let ty = read_fields::byte_or(self.bytes, p) as u8;
-        let n = read_fields::byte_or(self.bytes, p + 1) as usize;
+        let ty = read_fields::u8_at(self.bytes, p);
+        let n = usize::from(read_fields::u8_at(self.bytes, p + 1));
+        // Not by text_of, which asks that the text lies within the bytes: the contract does not.
         let text = write_bytes::part(self.bytes, p + 2, n);
         write_bytes::put_made(out, at, ty, text, k)
     }
@@ -80,13 +81,13 @@ impl<'a> Names<'a> {
         p
     }
 
-    // How many bytes the name made with K = k of the name x has.
+    // How many bytes the name made with K = k of the name x has: the text and the digits of k, and 7 for type, length, `_` and `_lvn`.
     fn made_name_size(self, x: u16, k: u64) -> usize
         requires { (x < names_count self.bytes.now) × ((k < most_made) × (names_end self.bytes.now ≤ length self.bytes.now)) }
         ensures { (result ≡ length (name_bytes (made_name (plain (record_from self.entry.bytes.now)) k (nm x)))) × (result ≤ made_reach) }
     {
         let p = self.place(x);
-        7 + (read_fields::byte_or(self.bytes, p + 1) as usize) + write_bytes::count_digits(k)
+        7 + usize::from(read_fields::u8_at(self.bytes, p + 1)) + write_bytes::count_digits(k)
     }
 
     // How many bytes the names made with K = 0, 1, .. of those in `made` have.

@@ -1,10 +1,7 @@
 -- `check_blocks::arguments_if` meets its contract: by whether the shape has them.
-use mathlib.Core.Path.{◌∙◌}
-use Rattle.record.proofs.Following.{there_yes, there_no}
+use borrow.Author.Rules.{rules}
+use Rattle.check_blocks.proofs.Laws.{part_is}
 use Rattle.check_blocks.proofs.arguments_if.Goals as goal
 
-pub returns-then-there : goal.returns-then-there
-returns-then-there c = c.check_arguments.ensures ∙ there_yes _ _ _ _ _ c.if-there.true
-
-pub returns-else-there : goal.returns-else-there
-returns-else-there c = there_no _ _ _ _ _ c.if-there.false
+pub returns : goal.returns
+returns c = part_is _ _ _ _ _ _ (λ e. search rules) c.if_there.ensures.no

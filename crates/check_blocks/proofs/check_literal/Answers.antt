@@ -12,11 +12,11 @@ pub returns-in_err-kind : goal.returns-in_err-kind
 unfolding literal
 returns-in_err-kind c = let a = c.args in
     handed_on c.from_residual.result c.in_err-kind.field-0.0 c.from_residual.ensures.1
-    ∙ read_no (field 1 (at_most 3)) _ a.s.now a.at _ (sym c.limited.ensures ∙ ap res c.in_err-kind.was)
+    ∙ read_no (field 1 (at_most 3)) _ a.s.now a.at _ (sym (rw c.from.ensures at c.limited.ensures) ∙ ap res c.in_err-kind.was)
 
 pub returns : goal.returns
 unfolding literal
 returns c = let a = c.args in
     read_is (field 1 (at_most 3)) _ a.s.now a.at _ _ _
-    (sym c.limited.ensures ∙ ap res c.in_ok-kind.was)
+    (sym (rw c.from.ensures at c.limited.ensures) ∙ ap res c.in_ok-kind.was)
     (c.verdict.ensures ∙ ap verdict c.bits_at.ensures ∙ sym (made (field 8 (literal_test _)) _ a.s.now _))

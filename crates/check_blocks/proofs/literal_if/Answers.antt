@@ -1,5 +1,4 @@
 -- `check_blocks::literal_if` meets its contract: by whether the shape has one.
-use mathlib.Core.Path.{◌≡◌}
 use borrow.Author.Rules.{rules}
 use Rattle.check_blocks.proofs.Laws.{part_is}
 use Rattle.check_blocks.proofs.literal_if.Goals as goal

@@ -7,6 +7,7 @@ use Rattle.record.specs.Read.{names}
 use Rattle.record.specs.Answer.{verdict}
 use Rattle.record.specs.Decode.{behind, name_end}
 use Rattle.read_layout.specs.Layout.{texts_from}
+use Rattle.check_names.specs.declared.TheConstants.{MARKS}
 use Rattle.check_names.proofs.Marks.{Marked}
 use Rattle.check_names.proofs.names_at.Given as goal
 
@@ -14,6 +15,6 @@ abbrev pub invariant-loop-i : goal.invariant-loop-i
 invariant-loop-i l = record {
   place : l.p ≡ behind (name_end l.s) l.at l.i;
   same : verdict (names l.lim (texts_from l.s l.at l.i) (l.count - l.i) l.s l.p) ≡ verdict (names l.lim [] l.count l.s l.at);
-  long : length l.seen ≡ 2048;
+  long : length l.seen ≡ MARKS;
   marked : Marked l.seen (texts_from l.s l.at l.i);
 }

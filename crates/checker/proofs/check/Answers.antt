@@ -1,13 +1,8 @@
 -- `checker::check` meets its contract: a fault of reading is the answer, otherwise the second pass answers.
 use mathlib.Core.Path.{sym, ◌∙◌}
 use Rattle.record.proofs.Following.{handed_on}
-use Rattle.checker.proofs.Laws.{checked_refused, typed_refused, typed_accepted}
+use Rattle.checker.proofs.Laws.{typed_refused, typed_accepted}
 use Rattle.checker.proofs.check.Goals as goal
-
-pub returns-in_err-read : goal.returns-in_err-read
-returns-in_err-read c =
-    handed_on c.from_residual.result c.in_err-read.field-0.0 c.from_residual.ensures.1
-    ∙ checked_refused _ _ (sym c.read.ensures ∙ c.in_err-read.was)
 
 pub returns-in_err-typed : goal.returns-in_err-typed
 returns-in_err-typed c =

@@ -1,12 +1,13 @@
 -- `engine::run_told` meets its contract: what the runs over no output come to is the machine's run, and the run that writes has the same
 -- events.
 use mathlib.Core.Path.{sym, ap, ◌∙◌}
+use Rattle.running.proofs.Engine.{enough_room}
 use Rattle.std.proofs.Common.{Err}
 use Rattle.record.proofs.Following.{handed_on}
 use Rattle.engine_pure.proofs.Works.{read_some, read_none}
 use Rattle.engine.proofs.Ended.{ended_fit, ended_unfit}
 use Rattle.engine.proofs.Begun.{store_refused, fed}
-use Rattle.engine.proofs.Answers.{short_by, enough_by, unfit_told, room_told, done_told}
+use Rattle.engine.proofs.Answers.{short_by, unfit_told, room_told, done_told}
 use Rattle.engine.proofs.run_told.Goals as goal
 
 pub returns-in_err-ok_or : goal.returns-in_err-ok_or
@@ -38,4 +39,4 @@ returns c = let a = c.args in
     let (h, u) = ended_fit a.g.now _ _ c.steps-t.ensures.ready.standing (sym c.ending.ensures ∙ c.in_ok-how.was) in
     done_told (fed a.g.now a.store.now a.t0 r.opened r.begun c.read_store.new.cells c.read_store.ensures (sym (read_some _ _ _ c.in_ok-ok_or.ensures.value)))
     r.begun c.steps.ensures c.steps-t.ensures a.events.now a.left.now u c.put_store-size.ensures
-    (enough_by _ _ _ _ c.if-events-t.false c.if-left-size.false) c.steps-2.ensures c.put_store.ensures h
+    (enough_room _ _ _ _ c.if-events-t.false c.if-left-size.false) c.steps-2.ensures c.put_store.ensures h

@@ -15,7 +15,7 @@ pub returns-in_err-n : goal.returns-in_err-n
 returns-in_err-n c = let a = c.args in
     let s = a.g.now.s.now in
     let read = read_all (store_in a.cells.now) in
-    let args = args_by c.requires.loud a.row c.byte_or.result c.requires.row c.byte_or.ensures.0 in
+    let args = args_by c.requires.loud a.row c.u8_at.result c.requires.counted c.u8_at.ensures in
     rw c.from_residual.ensures
     (event_unset s a.at a.out.now a.to (read (args_at s a.at))
     (c.in_err-n.ensures.0 ∙ ap (λ (xs : List NameIx). size_of (read xs)) args))
@@ -30,8 +30,8 @@ returns c = let a = c.args in
       | else-to-out w ↦ subst (λ (m : List ℕ). EventPut s a.at a.out.now m a.to (read (args_at s a.at))) (sym w.out-is)
           (event_past s a.at a.out.now a.to (read (args_at s a.at)) w.if-to-out.false)
     ] in
-    let args = args_by c.requires.loud a.row c.byte_or.result c.requires.row c.byte_or.ensures.0 in
+    let args = args_by c.requires.loud a.row c.u8_at.result c.requires.counted c.u8_at.ensures in
     event_told s a.at a.out.now a.to c.if-to-out.out (read (args_at s a.at)) a.g.now.w c.in_ok-n.n
-    c.byte_or.result c.requires.grounded.width
+    c.u8_at.result c.requires.grounded.width
     (c.in_ok-n.ensures.0 ∙ ap (λ (xs : List NameIx). size_of (read xs)) args)
-    (c.row_size.ensures.1 c.in_ok-n.n c.in_ok-n.was) (omega (arith, c.byte_or.ensures.0, c.requires.near)) c.requires.near.0 put
+    (c.row_size.ensures.1 c.in_ok-n.n c.in_ok-n.was) (omega (arith, c.u8_at.ensures, c.requires.near)) c.requires.near.0 put

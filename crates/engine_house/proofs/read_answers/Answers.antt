@@ -1,16 +1,7 @@
 -- `engine_house::read_answers` meets its contract: the answers still to come give the whole list.
-use mathlib.Core.Path.{sym, ◌∙◌}
 use native.Mathlib.Omega.{arith}
-use Rattle.engine_house.proofs.Answers.{list_closed, list_start, list_went, list_moved, list_stopped, list_done}
+use Rattle.engine_house.proofs.Answers.{list_went, list_moved, list_stopped, list_done}
 use Rattle.engine_house.proofs.read_answers.Goals as goal
-
-pub returns-then-not-opens : goal.returns-then-not-opens
-returns-then-not-opens c = list_closed _ (sym c.opens.ensures.0 ∙ c.if-not-opens.true)
-
-pub loop-p-init : goal.loop-p-init
-loop-p-init c = let o = c.if-not-opens.false in
-    let e = c.opens.ensures in
-    record { before = omega arith; few = omega arith; rest = list_start _ (sym e.0 ∙ o) (e.1 o) }
 
 pub returns-in_err-p : goal.returns-in_err-p
 returns-in_err-p c = let l = c.loop-p in

@@ -1,11 +1,10 @@
 -- `engine_steps::steps` meets its contract: each turn is one step more.
-use Prim.Native.Nat.{ℕ}
 use mathlib.Core.Path.{sym, ap, ◌∙◌}
-use mathlib.Core.Bool.{not, ◌&&◌}
+use mathlib.Core.Bool.{Bool, not, ◌&&◌}
 use native.Mathlib.Omega.{arith}
-use Rattle.engine_quiet.specs.Spot.{quiet}
+use Rattle.engine_quiet.specs.Spot.{code_at}
 use Rattle.engine_quiet.proofs.Bodies.{code_inside}
-use Rattle.engine_steps.proofs.Came.{stands, faces, coded, upto_nothing, upto_step}
+use Rattle.engine_steps.proofs.Came.{stands, faces, coded, quiet_by, upto_nothing, upto_step}
 use Rattle.engine_steps.proofs.steps.Goals as goal
 
 pub loop-t-init : goal.loop-t-init
@@ -18,7 +17,8 @@ pub loop-t-preserved : goal.loop-t-preserved
 loop-t-preserved c = let a = c.args in
     let l = c.loop-t in
     let p = c.in-Ok.p in
-    let e = coded p.at c.requires.grounded c.byte_or-code.ensures.0 in
-    let went = sym (ap (λ (k : ℕ). not l.t.tells && not (quiet k)) e) ∙ sym c.waits.ensures ∙ c.if-waits.false in
+    let e = coded p.at c.requires.grounded c.u8_at.ensures c.op_of-op.ensures in
+    let q = quiet_by (code_at a.g.now.s.now p.at) c.op_of-op.result e in
+    let went = sym (ap (λ (b : Bool). not l.t.tells && not b) q) ∙ sym c.waits.ensures ∙ c.if-waits.false in
     upto_step a.g.now a.cells.now l.cells _ a.out.now l.out _ a.t l.t _ p l.invariant c.in-Ok.is (omega (arith, c.if-t-eq0.false))
-    c.step.ensures.0 went c.step.ensures.1
+    c.step.ensures.0 went (λ h. c.step.ensures.1 (q ∙ h))

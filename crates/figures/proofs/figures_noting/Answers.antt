@@ -9,4 +9,4 @@ pub returns : goal.returns
 returns c = let p = c.requires in
     let s = c.args.src.now.reads.now in
     let m = c.measure.ensures in
-    counted s c.args.each.now _ (ap (λ (k : ℕ). num_at s k 2) p.0.reads.names) p.1.1 m.0 m.1.0.many m.1.1.1.0
+    counted s c.args.each.now _ (ap (λ (k : ℕ). num_at s k 2) p.0.typed.reads.names) p.1 m.0 m.1.0.many m.1.1.1.0

@@ -14,4 +14,4 @@ returns c = let h = c.with_table.ensures.4.1 in
 
 pub with_table-requires-clause-callable : goal.with_table-requires-clause-callable
 with_table-requires-clause-callable c = let p = c.requires in
-    λ names e many same. (p.0, (rw c.be.ensures.0 at many, rw same p.1))
+    λ names e many same. (record { typed = p.0; names = rw c.be.ensures.0 at many }, rw same p.1)

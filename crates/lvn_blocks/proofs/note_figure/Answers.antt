@@ -8,4 +8,4 @@ use Rattle.lvn_blocks.proofs.note_figure.Goals as goal
 pub returns : goal.returns
 unfolding put
 returns c = let a = c.args in
-    c.store.ensures ∙ ap (λ (n : ℕ). set a.each.now a.i (n + a.saves)) c.be.ensures.0
+    c.store.ensures ∙ ap (λ (n : ℕ). set a.each.now a.i (n + a.saves)) c.u16_at.ensures

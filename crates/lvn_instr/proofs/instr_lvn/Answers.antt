@@ -1,5 +1,5 @@
 -- `lvn_instr::instr_lvn` meets its contract.
-use Prim.Native.Nat.{◌<◌}
+use Prim.Native.Nat.{ℕ, ◌<◌}
 use mathlib.Core.List.{map}
 use mathlib.Core.Path.{◌≡◌, refl, sym, ap, ◌∙◌, subst}
 use native.Mathlib.Omega.{arith}
@@ -48,4 +48,5 @@ returns _ c = let a = c.args in
     let t = state_of h.new.self in
     c.emit.ensures ∙ ap (λ o. by_op a.n t (instr_of r.result) o (expr_of v.result)) r.ensures.1.1 ∙
     instr_by_op a.n types (state_of a.st.now) a.i c.requires.0 t (instr_of r.result) (expr_of v.result)
-    (rw c.as_slice.ensures.0 at h.ensures) (r.ensures.0 t refl refl) (v.ensures.0 t types (refl, refl) (sym c.type_of-t.ensures))
+    (rw c.as_slice.ensures.0 at h.ensures) (r.ensures.0 t refl refl) (v.ensures.0 t types (refl, refl)
+    (ap (λ (k : ℕ). types (nm k)) (sym c.from.ensures) ∙ sym c.type_of-t.ensures))

@@ -14,4 +14,4 @@ pub returns : goal.returns
 returns g c = let a = c.args in λ t is.
     field_judged g.row.N t a.s.now a.at _ _ _ _
     (sym c.field_at.ensures ∙ ap res c.in_ok-x.was)
-    (is _ _ (search rules) c.test.ensures) c.judged.ensures
+    (is _ _ (search rules) c.test.ensures) c.tested.ensures

@@ -1,10 +1,9 @@
 -- `read_fields::indexes_at` meets its contract: the rest from here gives the whole answer.
-use mathlib.Core.Path.{◌≡◌, sym, ap, ◌∙◌}
+use mathlib.Core.Path.{sym, ◌∙◌}
 use Rattle.std.proofs.Common.{◌-◌}
 use native.Mathlib.Omega.{arith}
-use Rattle.record.specs.Reader.{field, times}
+use Rattle.record.specs.Reader.{field}
 use Rattle.record.specs.Tests.{below}
-use Rattle.record.specs.Answer.{verdict}
 use Rattle.record.proofs.Following.{handed_on, row_stopped, row_went, times_done}
 use Rattle.read_fields.proofs.indexes_at.Goals as goal
 

@@ -16,10 +16,10 @@ overflow_add-at-3 c = record { fits = omega (arith, width_most c.requires.1.0) }
 pub read_operands-requires : goal.read_operands-requires
 read_operands-requires c = let a = c.args in (
   omega (arith, width_most c.requires.1.0),
-  readable_parts a.w a.s.now a.at _ _ c.read_id-id.ensures.0 c.byte_or-code.ensures.0 c.requires.1.1,
+  readable_parts a.w a.s.now a.at _ _ c.read_id-id.ensures.0 c.u8_at-code.ensures c.requires.1.1,
 )
 
 pub returns : goal.returns
 returns c = let a = c.args in
-    read_again a.w a.s.now a.at _ _ c.read_id-id.ensures.0 c.byte_or-code.ensures.0 (width_most c.requires.1.0)
+    read_again a.w a.s.now a.at _ _ c.read_id-id.ensures.0 c.u8_at-code.ensures (width_most c.requires.1.0)
     c.read_id-id.ensures.1 c.read_operands.ensures

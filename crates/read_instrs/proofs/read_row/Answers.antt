@@ -12,5 +12,5 @@ loop-i-init c = refl
 pub loop-i-preserved : goal.loop-i-preserved
 unfolding number_from
 loop-i-preserved c = let l = c.loop-i in
-    items_set (number_from c.args.s.now) l.x-items c.args.at _ l.i c.be.result
-    (omega (arith, c.loop-i-test.true, l.auto.x-items)) refl c.be.ensures.0 l.invariant
+    items_set (number_from c.args.s.now) l.x-items c.args.at _ l.i c.u16_at.result
+    (omega (arith, c.loop-i-test.true, l.auto.x-items)) refl c.u16_at.ensures l.invariant

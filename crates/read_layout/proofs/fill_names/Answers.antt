@@ -40,7 +40,7 @@ loop-i-preserved c = let l = c.loop-i in
       search rules,
       behind_next (name_end s) _ _ _ h _ next.0 ∙ l.invariant.3,
       filled_next (name_end s) _ _ _ h (λ p. (name_from s p).type) _ _ _ _
-          c.store.ensures c.byte_or.ensures.0 next.0 ∙ l.invariant.4,
+          c.store.ensures c.u8_at.ensures next.0 ∙ l.invariant.4,
       filled_next (name_end s) _ _ _ h (λ p. p) _ _ _ _ c.store-in-loop-i.ensures refl next.0 ∙ l.invariant.5,
     )
 

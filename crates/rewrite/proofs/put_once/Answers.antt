@@ -15,10 +15,10 @@ move_up-requires c = let n = c.put_blocks-b.result.at.q - (c.args.src.now.end + 
     let f = c.front_size-at.ensures in
     let size = parts_size (rewriting_in c.args.src.now.reads.now) 0 c.front_size-at.result n f.0
     (omega (arith, c.put_blocks-b.ensures.0.end)) in
-    (f.1.1, omega (arith, size, c.requires.1.1, c.put_blocks-b.auto))
+    (f.1.1, omega (arith, size, c.requires.1, c.put_blocks-b.auto))
 
 pub overflow_sub-at : goal.overflow_sub-at
-overflow_sub-at c = omega (arith, c.front_size-at.ensures.1.1, names_on c.requires.0.reads)
+overflow_sub-at c = omega (arith, c.front_size-at.ensures.1.1, names_on c.requires.0.typed.reads)
 
 pub returns : goal.returns
 returns c = let R = rewriting_in c.args.src.now.reads.now in
@@ -30,6 +30,6 @@ returns c = let R = rewriting_in c.args.src.now.reads.now in
       parts_size R 0 c.front_size-at.result n f.0 (omega (arith, b.0.end)),
       (
         b.1.0.many,
-        (parts_moved R _ _ b.0 f.0 f.1.1 c.requires.1.1 c.move_up.ensures c.put_front.ensures.0.out refl, omega (arith, t.fits)),
+        (parts_moved R _ _ b.0 f.0 f.1.1 c.requires.1 c.move_up.ensures c.put_front.ensures.0.out refl, omega (arith, t.fits)),
       ),
     )

@@ -11,3 +11,6 @@ pub returns : goal.returns
 returns c = let h = c.with_table.ensures.4.1 in
     let e = rw h.0 at h.1.1 in
     (e.0, sym h.1.0 ∙ e.1)
+
+pub with_table-requires-clause-callable : goal.with_table-requires-clause-callable
+with_table-requires-clause-callable c = λ names e many same. record { typed = c.requires; names = rw c.be.ensures.0 at many }

@@ -2,8 +2,7 @@
 use native.Mathlib.Omega.{arith}
 use native.Mathlib.Nat.{pow-suc}
 use lib.ListN.{length}
-use mathlib.Core.Path.{◌≡◌, ap, sym}
-use Rattle.numbering.specs.Made.{digits}
+use mathlib.Core.Path.{ap, sym}
 use Rattle.numbering.proofs.Digits.{digits_one}
 use Rattle.write_bytes.proofs.Digits.{digits_count}
 use Rattle.write_bytes.proofs.count_digits.Goals as goal

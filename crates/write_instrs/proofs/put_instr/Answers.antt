@@ -6,7 +6,7 @@ use Rattle.write_instrs.proofs.put_instr.Goals as goal
 
 pub returns : goal.returns
 returns c = (
-  instr_wrote c.args.w c.code_of-code.result c.shape_of.result c.args.i c.code_of-code.ensures (rw c.from.ensures at c.shape_of.ensures)
+  instr_wrote c.args.w c.from-code.result c.shape_of.result c.args.i c.from-code.ensures (rw c.from.ensures at c.shape_of.ensures)
       c.put_word.ensures c.put_u8.ensures c.put_operands.ensures.0,
   omega (arith, width_most c.requires.1.0, c.put_operands.ensures.1),
 )

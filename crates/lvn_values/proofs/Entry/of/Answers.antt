@@ -17,7 +17,7 @@ returns-in-One c = let p = c.operation.ensures in
     let a = c.in-One.a in
     rw c.in-One.is
     (ap (λ (e : Entry). expr_at e.head e.num) p.0 ∙
-    ap (λ (k : ℕ). expr_at (packed k a.0 0) 0) c.code1.ensures ∙ one_entry c.in-One.o a p.1.0)
+    ap (λ (k : ℕ). expr_at (packed k a.0 0) 0) c.from.ensures ∙ one_entry c.in-One.o a p.1.0)
 
 pub returns-in-Two : goal.returns-in-Two
 returns-in-Two c = let p = c.operation-in-Two.ensures in
@@ -25,4 +25,4 @@ returns-in-Two c = let p = c.operation-in-Two.ensures in
     let b = c.in-Two.b in
     rw c.in-Two.is
     (ap (λ (e : Entry). expr_at e.head e.num) p.0 ∙
-    ap (λ (k : ℕ). expr_at (packed k a.0 b.0) 0) c.code2.ensures ∙ two_entry c.in-Two.o a b p.1.0 p.1.1)
+    ap (λ (k : ℕ). expr_at (packed k a.0 b.0) 0) c.from-in-Two.ensures ∙ two_entry c.in-Two.o a b p.1.0 p.1.1)

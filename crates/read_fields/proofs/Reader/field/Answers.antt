@@ -1,6 +1,5 @@
 -- `read_fields::Reader::field` meets its contract: by how many bytes are left.
 use mathlib.Core.Path.{sym, ap, ◌∙◌}
-use Rattle.std.proofs.Common.{◌-◌, ◌≤◌, length}
 use native.Mathlib.Omega.{arith}
 use Rattle.std.specs.Prelude.{Err}
 use Rattle.record.specs.Tests.{any}
