@@ -56,6 +56,8 @@ pub fn may_stand(made: bool, text: &[u8]) -> bool
     made || !check_texts::reserved(text)
 }
 
+// lim, s and before go together through text_test, text_at and name_at alone: a struct of the three would be made for each name.
+
 // The text is refused where it is malformed, reserved, or the text of one of the names before.
 pub fn text_test(lim: Limits, s: &[u8], before: Before, text: &[u8]) -> Test
     requires { behind (name_end s.now) before.from before.count ≤ length s.now }

@@ -201,6 +201,8 @@ fn answered(g: &Ground, op: Op, cells: &mut Cells<NAMES>, event: usize, p: Spot,
 }
 
 // ---- one instruction
+// Going g p t, as Facing of engine_quiet: a value that kept it would be made for each instruction and taken apart again.
+
 // The instruction at which the run stands, which has an event.
 pub fn event_step(
     g: &Ground,

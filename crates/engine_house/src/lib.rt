@@ -54,7 +54,7 @@ pub fn has_type(t: u8, c: Cell) -> bool
 fn value_type(kind: u8) -> bool
     ensures { result ≡ value_type kind }
 {
-    kind == engine_cells::HELD || kind % record::POINTER <= record::CHAR
+    kind == engine_cells::HELD || read_fields::is_type(u64::from(kind))
 }
 
 // ---- values

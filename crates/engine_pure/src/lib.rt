@@ -1,5 +1,7 @@
 // What const and the operators do to the store: their operands read from the cells, the result put into dest's cell.
 // at: the place behind an instruction's code, where dest stands; behind its two bytes a count of one, the operands, of two each, from at + 3 on.
+// s, a place and cells are a parameter each, and that a place lies in s is asked of each place: a struct of them would be made for an operation
+// and taken apart by the operands.
 #![tactic(auto)]
 
 ghost use Rattle.std.specs.Prelude.{◌≡◌, ℕ, ◌+◌, ◌*◌, ◌<◌, ◌≤◌, length};
@@ -29,7 +31,8 @@ pub enum Stop {
 }
 
 // ---- operations of what was read
-// An operator of two ints. The others have no value of them.
+// An operator of two ints. The others have no value of them. lvn_simplify::fold_ints has the same arms and makes constants: both by one function
+// would want an enum of an int and a bool that each turns into its own.
 #[tactic(auto, unfolding(arith::specs::Opened::all_of_arith, words::specs::View::quotient_of, words::specs::View::result_of, crate::specs::Works::told))]
 fn of_ints(o: Two, a: u64, b: u64) -> Result<Cell, Stop>
     ensures { cells_held result ≡ told (apply2 o (int a) (int b)) }
@@ -73,7 +76,7 @@ fn shift(p: Cell, k: u64) -> Result<Cell, Stop>
     })
 }
 
-// ---- operands
+// ---- operands, an int's and a bool's apart: one over a closure that picks the part would be as long
 // The int that the name at a place holds.
 #[tactic(auto, unfolding(record::specs::Decode::index_from))]
 fn int_at<const N: usize>(s: &[u8], place: usize, cells: &Cells<N>) -> Result<u64, Stop>
@@ -139,7 +142,7 @@ fn value_of_two<const N: usize>(s: &[u8], at: usize, o: Two, cells: &Cells<N>) -
     }
 }
 
-// not and id
+// not and id. Apart from operate_two: 5 bytes are asked for here and one operand is promised of, there 7, and two.
 #[tactic(auto, using(crate::proofs::Works::worked), unfolding(record::specs::Decode::index_from))]
 pub fn operate_one<const N: usize>(
     s: &[u8],

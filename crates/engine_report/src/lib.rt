@@ -43,8 +43,8 @@ impl Parts {
     }
 }
 
-// A number in one byte and each value in eight, from the first byte on; how many bytes they are. write_instrs::put_row writes a list too: its
-// numbers are u16, of two bytes, and one function for both would have both lists as u64, as write_bytes::put_be takes them.
+// A number in one byte and each value in eight, from the first byte on; how many bytes they are. write_instrs::put_row writes a list too, of
+// u16 in two bytes: one function for both would have a type, a width and a law that its numbers fit, for two loops of four lines.
 fn put_returned(out: &mut [u8; HEAD], number: u8, values: &[u64]) -> usize
     requires { length values.now ≤ 5 }
     ensures end { result ≡ 1 + 8 * length values.now }

@@ -22,7 +22,7 @@ pub fn figures_noting(src: &Opened, names: &mut [u16], each: &mut [u16]) -> Tota
     rewrite::measure(&mut st, src, names, each)
 }
 
-// That, over a table that is long enough.
+// figures_noting over a table that is long enough.
 pub fn figures_typed(src: &Opened, each: &mut [u16]) -> Totals
     requires { Typed src.now × (num_at src.now.reads.now src.now.end 2 ≤ length each.old) }
     ensures { FiguredAs src.now.reads.now each.old (Ok result) each.new }
@@ -31,7 +31,7 @@ pub fn figures_typed(src: &Opened, each: &mut [u16]) -> Totals
         requires { Ready src.now names.old × (num_at src.now.reads.now src.now.end 2 ≤ length e.old) }
         ensures { FiguredAs src.entry.now.reads.now e.old (Ok result) e.new }
     { figures_noting(src, names, e) };
-    rewrite::with_table(read_fields::be::<2>(src.reads, src.end), each, noting)
+    rewrite::with_table(u64::from(src.blocks()), each, noting)
 }
 
 // Of a record laid open: whether each block has a place; then the rest. One without blocks is its own rewriting.
@@ -39,7 +39,7 @@ fn figures_opened(src: &Opened, each: &mut [u16]) -> Result<Totals, FiguresError
     requires { Typed src.now }
     ensures { FiguredAs src.now.reads.now each.old result each.new }
 {
-    let blocks = usize::from(read_fields::u16_at(src.reads, src.end));
+    let blocks = usize::from(src.blocks());
     if each.len() < blocks {
         return Err(FiguresError::TooFew);
     }

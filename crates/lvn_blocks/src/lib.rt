@@ -163,6 +163,7 @@ pub fn block_lvn(
     ensures { BlockDone src.now.layout src.now.reads.now (type_in src.now.types.now) at count.old result count.new
         names.old names.new out.old out.new }
 {
+    // As a u16, which its head has again; read_layout::block_head would give it as a usize.
     let n = read_fields::u16_at(src.reads, at.p);
     let k = count.k;
     st.restart(src.layout.args, k);

@@ -89,7 +89,7 @@ impl Entry {
 
 // The entries of the first count numbers, of which there can be N. Two arrays, since holds goes over the heads alone, or over the constants
 // alone. One array of entries was measured and is as quick, but over it holds would stand twice, for the heads and for the constants, or want a
-// closure that picks the part.
+// closure that picks the part; and the two share one count.
 // No PartialEq: what stands from count on is no part of the table.
 #[derive(Drop)]
 pub struct Values<const N: usize> {

@@ -24,8 +24,9 @@ pub type Test = Result<(), Refusal>;
 // ---- numbers of bytes that are there, the first byte the greatest
 // N ≤ 8 is asked by each function that takes N: they have no struct in common whose ghost field could say it once.
 
-// The number of N bytes. By an index: the closure of a fold would have to say in a contract of its own how great the number is so far, which is
-// what the loop's invariant says.
+// The number of N bytes. By an index: the loop over &s[at..at + N] was tried, and its bounds did not prove, since the contract allows no bytes
+// (N is 0) at a place past the end. The closure of a fold would have to say in a contract of its own how great the number is so far, which is what
+// the loop's invariant says.
 pub fn number_of<const N: usize>(s: &[u8], at: usize) -> u64
     requires { (N ≤ 8) × (N ≤ length s.now - at) }
     ensures { (result ≡ num_at s.now at N) × (result < 256 ^ N) }
@@ -111,7 +112,8 @@ pub fn byte_or(s: &[u8], at: usize) -> u64
 // That all bytes have a place is asked at each call, here and by each reader above: how many are read behind a place is another number each
 // time, so that no type of places could say it.
 
-// The number of N bytes; bytes past the end count as 0. What lies within is read without a test for each byte. By an index, as number_of.
+// The number of N bytes; bytes past the end count as 0. What lies within is read without a test for each byte; else by an index, since some
+// bytes are past the end, and by no fold, as number_of.
 pub fn be<const N: usize>(s: &[u8], at: usize) -> u64
     requires { (N ≤ 8) × (at + N ≤ places) }
     ensures { (result ≡ num_at s.now at N) × (result < 256 ^ N) }
@@ -244,7 +246,8 @@ pub fn index_at(s: &[u8], at: usize, n: u64) -> Next
     verdict(field_tested::<2, _>(s, at, |x| below(n, x)))
 }
 
-// A row of such numbers.
+// A row of such numbers. A loop of n steps each of which may refuse stands in check_blocks too: by a function over a closure each would still say
+// what its own step comes to.
 pub fn indexes_at(s: &[u8], at: usize, count: u64, n: u64) -> Next
     ensures { result ≡ verdict (times count (λ left. field 2 (below n)) s.now at) }
 {

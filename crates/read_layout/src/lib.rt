@@ -40,8 +40,8 @@ pub fn id_width(s: &[u8]) -> usize
 }
 
 // ---- the end of an instruction
-// s, w and at stand by themselves here, and w ≤ widest_id with them: who calls has them in a struct of its own (check_types' Typed, lvn_blocks'
-// Source), and would build another for each call.
+// s, w and at stand by themselves here, and w ≤ widest_id with them: who calls has them in a struct of its own (check_types' Typed, engine_quiet's
+// Ground), and would build another for each call.
 
 // The place behind operands of this shape.
 fn operands_end(sh: Shape, s: &[u8], at: usize) -> usize

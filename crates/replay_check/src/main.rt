@@ -7,7 +7,8 @@ use record::Fault;
 use replay_lines::Cursor;
 use std::io;
 
-// Whether check answered with this number and offset.
+// Whether check answered with this number and offset. By hand, and not by replay_lines::is_refusal: a Fault is a type of record, below the trait
+// Refuses.
 pub fn checked_so(answer: Result<(), Fault>, number: u64, offset: u64) -> bool {
     match answer {
         Ok(()) => number == 0 && offset == 0,

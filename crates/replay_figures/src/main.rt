@@ -13,7 +13,7 @@ use std::io;
 // What each place has at the start.
 const FILL: u16 = 0xEEEE;
 
-// What a line says of the answer: its number, the values that go with it, and each block's figure.
+// What a line says of the answer: its number, the values that go with it, and each block's figure. Number 0 is that of no refusal, as the line has it.
 #[derive(Clone, Copy, PartialEq, Eq, Debug)]
 pub struct Answer<'a> {
     pub number: u64,

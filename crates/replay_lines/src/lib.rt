@@ -104,7 +104,7 @@ impl<'a> Cursor<'a> {
     }
 }
 
-// The value of a hexadecimal digit in small letters.
+// The value of a hexadecimal digit in small letters; char::to_digit would take capitals too.
 pub fn hex_digit(c: u8) -> Option<u8>
     ensures { IfSome result (λ d. d < 16) }
 {

@@ -9,7 +9,7 @@ use numbering::NameError;
 use replay_lines::Cursor;
 use std::io;
 
-// What a line says of the answer, and of the part and its bytes.
+// What a line says of the answer, and of the part and its bytes. Number 0 is that of no refusal, as the line has it.
 #[derive(Clone, Copy, PartialEq, Eq, Debug)]
 pub struct Told<'a> {
     pub number: u64,

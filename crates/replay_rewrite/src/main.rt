@@ -11,7 +11,7 @@ use std::io;
 // What each byte of an output is at the start.
 const FILL: u8 = 0xEE;
 
-// What a line says of the answer: its number, its value and the bytes that are put into the output.
+// What a line says of the answer: its number, its value and the bytes that are put into the output. Number 0 is that of no refusal, as the line has it.
 #[derive(Clone, Copy, PartialEq, Eq, Debug)]
 pub struct Answer<'a> {
     pub number: u64,

@@ -33,7 +33,7 @@ pub struct Case<'a> {
 }
 
 // What a line says of the answer: its number and values, the events and the final store. No replay_lines::Expected: it is of a case and not of a
-// record alone, and two buffers are lent.
+// record alone, and two buffers are lent. Number 0 is that of no refusal, as the line has it.
 #[derive(Clone, Copy, PartialEq, Eq, Debug)]
 pub struct Answer<'a> {
     pub number: u64,

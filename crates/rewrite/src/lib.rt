@@ -5,10 +5,12 @@
 #![tactic(auto)]
 
 ghost use Rattle.std.specs.Prelude.{Ok, ◌≡◌, ◌∷◌, ◌+◌, ◌*◌, ◌<◌, ◌≤◌, length};
+ghost use Rattle.record.specs.Reader.{num_at};
 ghost use Rattle.record.specs.Write.{be, join, bytes};
 ghost use Rattle.record.specs.Answer.{checked};
 ghost use Rattle.record.specs.Sizes.{most_body};
 ghost use Rattle.record.specs.Again.{record_in};
+ghost use Rattle.read_fields.specs.Places.{places};
 ghost use Rattle.numbering.specs.Made.{made};
 ghost use Rattle.numbering.specs.Rewrite.{rewrite, rewrite_leaves};
 ghost use Rattle.write_bytes.specs.Put.{put, Wrote};
@@ -17,13 +19,11 @@ ghost use Rattle.rewrite.specs.Parts.{rewriting_in, figures_in, front_parts, blo
 
 use lvn_blocks::{Behind, BlockState, Source, Spot};
 use numbering::{RewriteError, Totals};
-use record::NAMES;
+use record::{BLOCKS, NAMES};
 use write_names::Names;
 
-// As many saves as a block can have, one for each instruction, and as many blocks as a record can have.
+// As many saves as a block can have, one for each instruction.
 const SAVES: usize = 256;
-
-const BLOCKS: usize = 64;
 
 // A record that is laid open: its bytes, the types and places of its names, and where these end. Source and Names are made of it where they are
 // asked for: each of the crates below has a part of it. The two tables are arrays of with_opened, which lends them: a struct that owned them would
@@ -36,6 +36,16 @@ pub struct Opened<'a> {
     pub types: &'a [u8],
     pub places: &'a [u32],
     pub end: usize,
+}
+
+impl<'a> Opened<'a> {
+    // How many blocks it has.
+    pub fn blocks(&self) -> u16
+        requires { self.now.end + 2 ≤ places }
+        ensures { result ≡ num_at self.now.reads.now self.now.end 2 }
+    {
+        read_fields::u16_at(self.reads, self.end)
+    }
 }
 
 // The blocks of the rewriting, from a place on; the place behind them, and the count of saves. names: what each K saved; each: how many
@@ -86,7 +96,7 @@ pub fn put_front(src: &Opened, row: &[u16], out: &mut [u8], rest: u32) -> usize
         places: src.places,
     };
     let q = names.put_made_names(out, p, row);
-    write_bytes::put_u16(out, q, read_fields::u16_at(s, src.end));
+    write_bytes::put_u16(out, q, src.blocks());
     q + 2
 }
 
@@ -214,7 +224,7 @@ pub fn with_table<T, R, F: FnOnce(&mut [u16], &mut [T]) -> R>(
     }
 }
 
-// That, over a table that is long enough.
+// rewrite_noting over a table that is long enough.
 pub fn rewrite_typed(src: &Opened, out: &mut [u8]) -> Result<Totals, RewriteError>
     requires { Typed src.now }
     ensures { Answered src.now.reads.now out.old result out.new }
@@ -223,12 +233,13 @@ pub fn rewrite_typed(src: &Opened, out: &mut [u8]) -> Result<Totals, RewriteErro
         requires { Ready src.now names.old }
         ensures { Answered src.entry.now.reads.now o.old result o.new }
     { rewrite_noting(src, names, o) };
-    with_table(read_fields::be::<2>(src.reads, src.end), out, noting)
+    with_table(u64::from(src.blocks()), out, noting)
 }
 
 // Lends `then` an accepted record laid open, and out, and hands back its answer. The contract says: `then` is called with a record of these bytes
 // of which all holds that Typed says (src) and with out as it was (o); its answer is the answer, and what it leaves in o (written) is what out is
-// left with.
+// left with. That the record is accepted is asked here and by rewrite_accepted, figures_accepted and engine's run_accepted. No plainer: an entry
+// calls each of these three when it has just checked, and a struct of checked bytes would be made for that one call.
 pub fn with_opened<T, R, F: FnOnce(&Opened, &mut [T]) -> R>(s: &[u8], out: &mut [T], then: F) -> R
     requires accepted { checked s.now ≡ Ok tt }
     requires callable { (src : _) (o : _) → src.now.reads.now ≡ s.now → Typed src.now → o.now ≡ out.old → F.pre then src o }

@@ -1,7 +1,8 @@
 // Writing to a lent slice. `put_bytes` leaves out what would stand past the end, and the writers over it with it, so they ask for no room,
 // and over an empty slice they learn the size. Only `move_up` asks that what it writes lies inside.
-// Each takes out and at, and hands back the place behind: a struct of both would be a `&mut` slice lent on and taken back at each part, and say
-// no more. That `at + n < places` is asked by each, since n is another for each; a type of places would have to know the n of what is yet to come.
+// Each takes out and a place, and those of texts, digits and made names hand back the place behind: a struct of both would be a `&mut` slice lent
+// on and taken back at each part, and say no more. That `at + n < places` is asked by each, since n is another for each; a type of
+// places would have to know the n of what is yet to come.
 #![tactic(auto)]
 
 ghost use Rattle.std.specs.Prelude.{◌≡◌, ◌+◌, ◌-◌, ◌^◌, ◌<◌, ◌≤◌, length, take, drop};

@@ -5,7 +5,7 @@ use Rattle.record.proofs.Again.{few_blocks}
 use Rattle.figures.proofs.figures_typed.Goals as goal
 
 pub with_table-requires-clause-few : goal.with_table-requires-clause-few
-with_table-requires-clause-few c = omega (arith, c.be.ensures.0, few_blocks c.requires.0.reads)
+with_table-requires-clause-few c = omega (arith, c.from.ensures, c.blocks-2.ensures, few_blocks c.requires.0.reads)
 
 pub returns : goal.returns
 returns c = let h = c.with_table.ensures.4.1 in
@@ -14,4 +14,4 @@ returns c = let h = c.with_table.ensures.4.1 in
 
 pub with_table-requires-clause-callable : goal.with_table-requires-clause-callable
 with_table-requires-clause-callable c = let p = c.requires in
-    λ names e many same. (record { typed = p.0; names = rw c.be.ensures.0 at many }, rw same p.1)
+    λ names e many same. (record { typed = p.0; names = rw (c.from.ensures, c.blocks-2.ensures) at many }, rw same p.1)

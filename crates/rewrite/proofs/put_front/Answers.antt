@@ -35,7 +35,7 @@ returns c = let p = c.requires.reads in
     let m = c.requires.saved in (
       front_put p m _ _ _ _ _ c.put_u32.ensures c.put_record_head.ensures c.copy_names-p.ensures.0
           c.put_made_names-q.ensures.0 c.put_u16.ensures c.u8_at-version.ensures c.u8_at-args.ensures
-          (omega (arith, c.names_count.ensures)) c.u16_at.ensures,
+          (omega (arith, c.names_count.ensures)) c.blocks-2.ensures,
       (
         omega (arith, p.near, c.copy_names-p.ensures.1, few_made p m, c.put_made_names-q.ensures.1),
         names_before p c.copy_names-p.ensures.0.end (omega (arith, c.put_made_names-q.ensures.0.end)),

@@ -5,7 +5,7 @@ use Rattle.record.proofs.Again.{few_blocks}
 use Rattle.rewrite.proofs.rewrite_typed.Goals as goal
 
 pub with_table-requires-clause-few : goal.with_table-requires-clause-few
-with_table-requires-clause-few c = omega (arith, c.be.ensures.0, few_blocks c.requires.reads)
+with_table-requires-clause-few c = omega (arith, c.from.ensures, c.blocks-2.ensures, few_blocks c.requires.reads)
 
 pub returns : goal.returns
 returns c = let h = c.with_table.ensures.4.1 in
@@ -13,4 +13,4 @@ returns c = let h = c.with_table.ensures.4.1 in
     (e.0, sym h.1.0 ∙ e.1)
 
 pub with_table-requires-clause-callable : goal.with_table-requires-clause-callable
-with_table-requires-clause-callable c = λ names e many same. record { typed = c.requires; names = rw c.be.ensures.0 at many }
+with_table-requires-clause-callable c = λ names e many same. record { typed = c.requires; names = rw (c.from.ensures, c.blocks-2.ensures) at many }
