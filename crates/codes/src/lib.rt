@@ -13,7 +13,9 @@ use record::{BOOL, CHAR, FLOAT, INT, Literal, Op};
 
 // ---- the operation of a code
 // All codes from 64 on but those of jmp, br, ret and nop are effects that ask the world. A function, and no From<u8> for Op: that would stand in
-// record, with the definition of op_of and the laws of it that are here, and say no more to the two who call it.
+// record, with the definition of op_of and the laws of it that are here, and say no more to the two who call it. Inlined, since a
+// run calls it at each step.
+#[inline(always)]
 #[tactic(auto, using(crate::proofs::Op::new_op, crate::proofs::Op::effect_op), unfolding(crate::specs::Op::op_of, arith::specs::Opened::all_of_arith))]
 pub fn op_of(code: u8) -> Op
     ensures { result ≡ op_of code }
