@@ -156,7 +156,7 @@ module _
     bytes = store_bytes (values_from (store_in cells₂) 0 (length g.types.now))
 
     pub unfit_told : t.spot ≡ Err over.Unfit → Leaves events left (Err Unfit)
-    unfit_told u = unfit_answer g store fed events left (unfit_later g a begun.waits (b.unfit u))
+    unfit_told u = unfit_answer g store fed events left (unfit_later g a begun.waits (b.upto.unfit u))
 
     -- size: the bytes of the store
     module _ (fits : t.spot ≢ Err over.Unfit) {size : ℕ} {l₃ m₃ : List ℕ} (measured : Wrote l₃ m₃ 0 size bytes) where
@@ -164,7 +164,7 @@ module _
       told = finishes g b refl fits
 
       reached : Reached g cells₀ cells₂ t₀ t told.added
-      reached = reaches g a begun.waits begun.first b.fewer told
+      reached = reaches g a begun.waits begun.first b.upto.fewer told
 
       measure : size ≡ length bytes
       measure = omega (arith, measured.end)

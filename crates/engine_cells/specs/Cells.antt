@@ -1,8 +1,7 @@
 -- The cells of the names as a store: what each name holds, whatever its cell is.
-use Rattle.std.specs.Prelude.{ℕ, List, map, cond, ◌≡◌, Option as CodeOption, None, Some, Bool, get_or, length, leb, eqb}
+use Rattle.std.specs.Prelude.{ℕ, List, map, cond, ◌≡◌, Option as CodeOption, None, Some, get_or, length, leb, eqb}
 use Rattle.std.proofs.Math.Option.{Option, none, some}
 use Rattle.arith.specs.Value.{Val, pointer}
-use Rattle.arith.specs.Operation.{as_int, as_bool}
 use Rattle.record.specs.declared.NameIx.{NameIx}
 use Rattle.record.specs.Write.{join}
 use Rattle.record.specs.Decode.{items, two_on, index_from}
@@ -53,13 +52,10 @@ abbrev pub found : {A : Type 0} → Option A → CodeOption A
 found none = None
 found (some a) = Some a
 
-unfoldable pub int_held : Option Val → CodeOption ℕ
-int_held none = None
-int_held (some v) = found (as_int v)
-
-unfoldable pub bool_held : Option Val → CodeOption Bool
-bool_held none = None
-bool_held (some v) = found (as_bool v)
+-- to: arith's as_int or as_bool
+unfoldable pub held_as : {A : Type 0} → (Val → Option A) → Option Val → CodeOption A
+held_as to none = None
+held_as to (some v) = found (to v)
 
 -- ---- a row of names
 -- the n names whose indexes stand from a place of the record on

@@ -6,6 +6,7 @@ ghost use Rattle.std.specs.Prelude.{◌≡◌, cond, ℕ, ◌+◌, ◌*◌, ◌<
 ghost use Rattle.std.proofs.Math.Option.{none, some};
 ghost use Rattle.arith.specs.Map.{upd};
 ghost use Rattle.arith.specs.Value.{int, bool};
+ghost use Rattle.arith.specs.Operation.{as_int, as_bool};
 ghost use Rattle.record.specs.declared.NameIx.{NameIx};
 ghost use Rattle.record.specs.Record.{nm, NameIx-discrete};
 ghost use Rattle.record.specs.Write.{be};
@@ -14,7 +15,7 @@ ghost use Rattle.running.specs.House.{held, words, value_bytes};
 ghost use Rattle.running.specs.Items.{plain_from};
 ghost use Rattle.read_fields.specs.Places.{places};
 ghost use Rattle.write_bytes.specs.Put.{Wrote};
-ghost use Rattle.engine_cells.specs.Cells.{cell_holds, cell_in, int_held, bool_held, value_in, store_in, row_from, size_of, RowWritten};
+ghost use Rattle.engine_cells.specs.Cells.{cell_holds, cell_in, held_as, value_in, store_in, row_from, size_of, RowWritten};
 
 // The type byte of an int literal held by a float, which is the last without a pointer, and the byte of nothing, as the house form has them.
 pub const HELD: u8 = 0x04;
@@ -127,7 +128,7 @@ impl<const N: usize> Cells<N> {
     // The int that a name holds.
     #[tactic(auto, using(crate::proofs::ByKind::int_by, crate::proofs::Store::held_in))]
     pub fn int(&self, x: u64) -> Option<u64>
-        ensures { result ≡ int_held (store_in self.now (nm x)) }
+        ensures { result ≡ held_as as_int (store_in self.now (nm x)) }
     {
         let c = self.get(x);
         (c.kind == record::INT).then_some(c.word)
@@ -136,7 +137,7 @@ impl<const N: usize> Cells<N> {
     // The bool that a name holds.
     #[tactic(auto, using(crate::proofs::ByKind::bool_by, crate::proofs::Store::held_in))]
     pub fn bool(&self, x: u64) -> Option<bool>
-        ensures { result ≡ bool_held (store_in self.now (nm x)) }
+        ensures { result ≡ held_as as_bool (store_in self.now (nm x)) }
     {
         let c = self.get(x);
         (c.kind == record::BOOL).then_some(c.word != 0)

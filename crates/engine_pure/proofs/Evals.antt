@@ -5,7 +5,7 @@ use mathlib.Core.Logic.{◌≢◌, ◌⊎◌, inl, inr}
 use mathlib.Core.Bool.{Bool, not}
 use mathlib.Core.Option.{Option, none, some}
 use native.Mathlib.Omega.{arith}
-use Rattle.std.proofs.Common.{Ok, Err}
+use Rattle.std.proofs.Common.{Some, Ok, Err}
 use Rattle.std.specs.Option.{ok_or}
 use Rattle.std.proofs.lemmas.Result.{err_from_is_err_and}
 use Rattle.arith.specs.declared.One.TheVariants.{Not, Id}
@@ -18,9 +18,9 @@ use Rattle.record.specs.declared.NameIx.{NameIx}
 use Rattle.machine.specs.Machine.{Store}
 use Rattle.running.specs.House.{held, nothing_byte}
 use Rattle.engine_cells.specs.declared.Cell.{Cell}
-use Rattle.engine_cells.specs.Cells.{cell_holds, int_held, bool_held}
+use Rattle.engine_cells.specs.Cells.{cell_holds, held_as}
 use Rattle.engine_cells.proofs.Store.{by_pointer, held_none, held_some}
-use Rattle.engine_cells.proofs.ByKind.{no_shift, is_int, is_no_int, is_bool, is_no_bool}
+use Rattle.engine_cells.proofs.ByKind.{no_shift, was_none, is_int, is_bool}
 use Rattle.engine_pure.specs.declared.Stop.{Stop}
 use Rattle.engine_pure.specs.declared.Stop.TheVariants.{Unset}
 use Rattle.engine_pure.specs.Works.{Told, told}
@@ -86,52 +86,58 @@ module _ (σ : Store) (x y : NameIx) (o : Two) where
   unfolding eval
   both_unset k e h = told_unset e (unset_both (σ x) (σ y) (apply2 o) h)
 
-  -- of ints
-  module _ (n : o ≢ And) (m : o ≢ Or) (p : o ≢ PtrAdd) where
-    pub first_no_int : (k : Stop) → Err k ≡ ok_or (int_held (σ x)) Unset → Err k ≡ told (eval σ (two o x y))
-    first_no_int k e =
+  -- of one type: `to` takes a value of it, and `of` makes one
+  module _ {A : Type 0} (to : Val → Option A) (of : A → Val) where
+    first_lacks : Takes to of o → (k : Stop) → Err k ≡ ok_or (held_as to (σ x)) Unset → Err k ≡ told (eval σ (two o x y))
+    first_lacks takes k e =
         let (a, b) = read_none _ _ _ e in
-        both_unset k b (λ u v q r. take_ints o n m p u v ∙ no_first _ (as_int u) (as_int v) (is_no_int (σ x) u a q))
+        both_unset k b (λ u v q r. takes u v ∙ no_first _ (to u) (to v) (was_none to (σ x) u a q))
 
-    pub second_no_int : (k : Stop) → Err k ≡ ok_or (int_held (σ y)) Unset → Err k ≡ told (eval σ (two o x y))
-    second_no_int k e =
+    second_lacks : Takes to of o → (k : Stop) → Err k ≡ ok_or (held_as to (σ y)) Unset → Err k ≡ told (eval σ (two o x y))
+    second_lacks takes k e =
         let (a, b) = read_none _ _ _ e in
-        both_unset k b (λ u v q r. take_ints o n m p u v ∙ no_second _ (as_int u) (as_int v) (is_no_int (σ y) v a r))
+        both_unset k b (λ u v q r. takes u v ∙ no_second _ (to u) (to v) (was_none to (σ y) v a r))
+
+    both_read :
+        ((p : Option Val) (a : A) → Some a ≡ held_as to p → p ≡ some (of a)) →
+        (a b : A) (z : Told) → Ok a ≡ ok_or (held_as to (σ x)) Unset → Ok b ≡ ok_or (held_as to (σ y)) Unset →
+        z ≡ told (apply2 o (of a) (of b)) → z ≡ told (eval σ (two o x y))
+    both_read is a b z e f h = h ∙ ap told (sym (both_set (of a) (of b) (is (σ x) a (read_some _ _ _ e)) (is (σ y) b (read_some _ _ _ f))))
+
+  module _ (n : o ≢ And) (m : o ≢ Or) (p : o ≢ PtrAdd) where
+    pub first_no_int : (k : Stop) → Err k ≡ ok_or (held_as as_int (σ x)) Unset → Err k ≡ told (eval σ (two o x y))
+    first_no_int = first_lacks as_int int (take_ints o n m p)
+
+    pub second_no_int : (k : Stop) → Err k ≡ ok_or (held_as as_int (σ y)) Unset → Err k ≡ told (eval σ (two o x y))
+    second_no_int = second_lacks as_int int (take_ints o n m p)
 
   pub both_int :
-      (a b : ℕ) (z : Told) → Ok a ≡ ok_or (int_held (σ x)) Unset → Ok b ≡ ok_or (int_held (σ y)) Unset →
+      (a b : ℕ) (z : Told) → Ok a ≡ ok_or (held_as as_int (σ x)) Unset → Ok b ≡ ok_or (held_as as_int (σ y)) Unset →
       z ≡ told (apply2 o (int a) (int b)) → z ≡ told (eval σ (two o x y))
-  both_int a b z e f h =
-      h ∙ ap told (sym (both_set (int a) (int b) (is_int (σ x) a (read_some _ _ _ e)) (is_int (σ y) b (read_some _ _ _ f))))
+  both_int = both_read as_int int is_int
 
-  -- of bools
   module _ (h : (o ≡ And) ⊎ (o ≡ Or)) where
-    pub first_no_bool : (k : Stop) → Err k ≡ ok_or (bool_held (σ x)) Unset → Err k ≡ told (eval σ (two o x y))
-    first_no_bool k e =
-        let (a, b) = read_none _ _ _ e in
-        both_unset k b (λ u v q r. take_bools o h u v ∙ no_first _ (as_bool u) (as_bool v) (is_no_bool (σ x) u a q))
+    pub first_no_bool : (k : Stop) → Err k ≡ ok_or (held_as as_bool (σ x)) Unset → Err k ≡ told (eval σ (two o x y))
+    first_no_bool = first_lacks as_bool bool (take_bools o h)
 
-    pub second_no_bool : (k : Stop) → Err k ≡ ok_or (bool_held (σ y)) Unset → Err k ≡ told (eval σ (two o x y))
-    second_no_bool k e =
-        let (a, b) = read_none _ _ _ e in
-        both_unset k b (λ u v q r. take_bools o h u v ∙ no_second _ (as_bool u) (as_bool v) (is_no_bool (σ y) v a r))
+    pub second_no_bool : (k : Stop) → Err k ≡ ok_or (held_as as_bool (σ y)) Unset → Err k ≡ told (eval σ (two o x y))
+    second_no_bool = second_lacks as_bool bool (take_bools o h)
 
   pub both_bool :
-      (a b : Bool) (z : Told) → Ok a ≡ ok_or (bool_held (σ x)) Unset → Ok b ≡ ok_or (bool_held (σ y)) Unset →
+      (a b : Bool) (z : Told) → Ok a ≡ ok_or (held_as as_bool (σ x)) Unset → Ok b ≡ ok_or (held_as as_bool (σ y)) Unset →
       z ≡ told (apply2 o (bool a) (bool b)) → z ≡ told (eval σ (two o x y))
-  both_bool a b z e f h =
-      h ∙ ap told (sym (both_set (bool a) (bool b) (is_bool (σ x) a (read_some _ _ _ e)) (is_bool (σ y) b (read_some _ _ _ f))))
+  both_bool = both_read as_bool bool is_bool
 
 -- ptradd; p: what x holds
 module _ (σ : Store) (x y : NameIx) where
-  pub no_offset : (k : Stop) → Err k ≡ ok_or (int_held (σ y)) Unset → Err k ≡ told (eval σ (two PtrAdd x y))
+  pub no_offset : (k : Stop) → Err k ≡ ok_or (held_as as_int (σ y)) Unset → Err k ≡ told (eval σ (two PtrAdd x y))
   unfolding apply2 with_one
   no_offset k e =
       let (a, b) = read_none _ _ _ e in
-      both_unset σ x y PtrAdd k b (λ u v q r. rw (is_no_int (σ y) v a r))
+      both_unset σ x y PtrAdd k b (λ u v q r. rw (was_none as_int (σ y) v a r))
 
   pub moved :
-      (a : ℕ) (p : Option Val) (z : Told) → Ok a ≡ ok_or (int_held (σ y)) Unset → σ x ≡ p →
+      (a : ℕ) (p : Option Val) (z : Told) → Ok a ≡ ok_or (held_as as_int (σ y)) Unset → σ x ≡ p →
       z ≡ told (with_one p (λ v. shift v a)) → z ≡ told (eval σ (two PtrAdd x y))
   unfolding eval apply2 as_int with_both with_one
   moved a p z e f h = h ∙ ap told (sym (rw (is_int (σ y) a (read_some _ _ _ e), f) (by p)))
@@ -166,15 +172,15 @@ module _ (c : Cell) (k : ℕ) where
 -- ---- the operators of one name
 module _ (σ : Store) (x : NameIx) where
   -- not
-  pub negated : (b : Bool) (u : Option Val) → Ok b ≡ ok_or (bool_held (σ x)) Unset → u ≡ some (bool (not b)) → Ok u ≡ told (eval σ (one Not x))
+  pub negated : (b : Bool) (u : Option Val) → Ok b ≡ ok_or (held_as as_bool (σ x)) Unset → u ≡ some (bool (not b)) → Ok u ≡ told (eval σ (one Not x))
   unfolding eval with_one apply1 as_bool
   negated b u e f = ap Ok f ∙ told_ok (rw (is_bool (σ x) b (read_some _ _ _ e)) refl)
 
-  pub negate_other : (k : Stop) → Err k ≡ ok_or (bool_held (σ x)) Unset → Err k ≡ told (eval σ (one Not x))
+  pub negate_other : (k : Stop) → Err k ≡ ok_or (held_as as_bool (σ x)) Unset → Err k ≡ told (eval σ (one Not x))
   unfolding eval with_one apply1
   negate_other k e =
       let (a, b) = read_none _ _ _ e in
-      told_unset b (unset_one (σ x) (apply1 Not) (λ u p. rw (is_no_bool (σ x) u a p)))
+      told_unset b (unset_one (σ x) (apply1 Not) (λ u p. rw (was_none as_bool (σ x) u a p)))
 
   -- id; c: the cell of x
   module _ (c : Cell) (e : σ x ≡ cell_holds c) where

@@ -10,14 +10,14 @@ ghost use Rattle.std.proofs.Math.Option.{some};
 ghost use Rattle.arith.specs.declared.One.TheVariants.{Id};
 ghost use Rattle.arith.specs.Map.{upd};
 ghost use Rattle.arith.specs.Value.{int, bool};
-ghost use Rattle.arith.specs.Operation.{one, two, with_one, shift, apply2, eval};
+ghost use Rattle.arith.specs.Operation.{as_int, as_bool, one, two, with_one, shift, apply2, eval};
 ghost use Rattle.record.specs.Record.{NameIx-discrete, type_in};
 ghost use Rattle.record.specs.Form.{value_of};
 ghost use Rattle.record.specs.Reader.{num_at};
 ghost use Rattle.record.specs.Decode.{index_from};
 ghost use Rattle.running.specs.House.{held};
 ghost use Rattle.running.specs.Items.{plain_from};
-ghost use Rattle.engine_cells.specs.Cells.{int_held, bool_held, cell_holds, store_in};
+ghost use Rattle.engine_cells.specs.Cells.{held_as, cell_holds, store_in};
 ghost use Rattle.engine_pure.specs.Works.{Works, told, cells_held, Lies};
 
 use arith::{One, Two};
@@ -81,7 +81,7 @@ fn shift(p: Cell, k: u64) -> Result<Cell, Stop>
 #[tactic(auto, unfolding(record::specs::Decode::index_from))]
 fn int_at<const N: usize>(s: &[u8], place: usize, cells: &Cells<N>) -> Result<u64, Stop>
     requires { place + 1 < length s.now }
-    ensures { result ≡ ok_or (int_held (store_in cells.now (index_from s.now place))) Stop.Unset }
+    ensures { result ≡ ok_or (held_as as_int (store_in cells.now (index_from s.now place))) Stop.Unset }
 {
     cells
         .int(read_fields::number_of::<2>(s, place))
@@ -92,7 +92,7 @@ fn int_at<const N: usize>(s: &[u8], place: usize, cells: &Cells<N>) -> Result<u6
 #[tactic(auto, unfolding(record::specs::Decode::index_from))]
 fn bool_at<const N: usize>(s: &[u8], place: usize, cells: &Cells<N>) -> Result<bool, Stop>
     requires { place + 1 < length s.now }
-    ensures { result ≡ ok_or (bool_held (store_in cells.now (index_from s.now place))) Stop.Unset }
+    ensures { result ≡ ok_or (held_as as_bool (store_in cells.now (index_from s.now place))) Stop.Unset }
 {
     cells
         .bool(read_fields::number_of::<2>(s, place))

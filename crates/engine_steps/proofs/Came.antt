@@ -29,7 +29,7 @@ use Rattle.engine_quiet.proofs.Moved.{Run}
 use Rattle.engine_events.specs.declared.Turn.{Turn}
 use Rattle.engine_events.specs.Turn.{config_in, answers_left, ahead_of, events_ahead, Ready, Going, Stepped}
 use Rattle.engine_events.proofs.Operands.{stands as before_of}
-use Rattle.engine_steps.specs.Came.{waiting, steps_of, unfit_of, Calm, Goes}
+use Rattle.engine_steps.specs.Came.{waiting, steps_of, Calm, Goes, Upto}
 use Rattle.engine_steps.proofs.Events.{events_then, no_bytes}
 
 -- ---- the instruction at which a run stands
@@ -48,6 +48,11 @@ coded {g} at h e f = f ∙ ap op_of (e ∙ ap (λ (k : ℕ). get_or g.s.now (at 
 -- it has no event by the one as by the other
 pub quiet_by : (c : ℕ) (o : Op) → o ≡ op_of c → quiet_op o ≡ quiet c
 quiet_by c o e = ap quiet_op e ∙ quiet_of c
+
+-- and waits by the one as by the other
+pub waiting_by :
+    (s : List ℕ) (p : Spot) (t : Turn) (o : Op) → o ≡ op_of (code_at s p.at) → waiting s p t ≡ (not t.tells && not (quiet_op o))
+waiting_by s p t o e = ap (λ (b : Bool). not t.tells && not b) (sym (quiet_by (code_at s p.at) o e))
 
 -- ---- a step without an event
 -- standing elsewhere
@@ -95,14 +100,6 @@ module _ (g : Ground) (before after : Cells 256) (l : List ℕ) (p : Spot) (t : 
   quiet_calm = record { event = refl; stop = moved.stop }
 
 -- ---- as far as a run has come
-pub record Upto (g : Ground) (before after : Cells 256) (l m : List ℕ) (t r : Turn) : Type 0 where
-  pub ready : Ready g r
-  pub fewer : r.more ≤ t.more
-  pub tells : r.tells ≡ t.tells
-  pub unfit : r.spot ≡ Err Unfit → unfit_of g t.more (config_in g before t) ≡ true
-  pub fit : r.spot ≢ Err Unfit → Goes g before after l m t r
-  pub calm : t.tells ≡ false → r.spot ≢ Err Unfit
-
 pub upto_nothing :
     (g : Ground) (cells : Cells 256) (l : List ℕ) (t : Turn) →
     Ready g t →

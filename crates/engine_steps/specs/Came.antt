@@ -1,5 +1,5 @@
 -- What as many steps as may be taken come to: where the machine's run from the same place leads, with the events that were added written out.
-use Rattle.std.specs.Prelude.{ℕ, ◌-◌, ◌≤◌, List, [], Bool, true, false, not, ◌&&◌, ◌≡◌, ◌≢◌, ◌⊎◌, Err}
+use Rattle.std.specs.Prelude.{ℕ, ◌-◌, ◌≤◌, List, [], Bool, true, false, not, ◌&&◌, ◌≡◌, ◌≢◌, Ok, Err}
 use Rattle.record.specs.Decode.{id_width}
 use Rattle.machine.specs.Machine.{Event}
 use Rattle.running.specs.Steps.{Config, steps, shifted}
@@ -19,9 +19,11 @@ use Rattle.engine_events.specs.Turn.{config_in, Ready}
 abbrev pub waiting : List ℕ → Spot → Turn → Bool
 waiting s p t = not t.tells && not (quiet (code_at s p.at))
 
--- the run is over
-abbrev pub IsOver : Turn → Type 0
-IsOver t = (k : Over) × (t.spot ≡ Err k)
+-- the run goes no further: it is over, no step may be taken, or it waits
+pub data Rests (s : List ℕ) (t : Turn) : Type 0 where
+  is_over : (k : Over) → t.spot ≡ Err k → Rests s t
+  spent : t.more ≡ 0 → Rests s t
+  waits : (p : Spot) → t.spot ≡ Ok p → waiting s p t ≡ true → Rests s t
 
 module _ (g : Ground) where
   -- k steps of the machine, and whether one of them takes an answer that does not fit
@@ -47,12 +49,17 @@ pub record Goes (g : Ground) (before after : Cells 256) (l m : List ℕ) (t r : 
   pub wrote : Wrote l m t.event r.event (events_bytes (id_width g.s.now) added)
   pub waited : t.tells ≡ false → added ≡ []
 
-pub record Came (g : Ground) (before after : Cells 256) (l m : List ℕ) (t r : Turn) : Type 0 where
+-- from t as far as r
+pub record Upto (g : Ground) (before after : Cells 256) (l m : List ℕ) (t r : Turn) : Type 0 where
   pub ready : Ready g r
   pub fewer : r.more ≤ t.more
+  pub tells : r.tells ≡ t.tells
   pub unfit : r.spot ≡ Err Unfit → unfit_of g t.more (config_in g before t) ≡ true
   pub fit : r.spot ≢ Err Unfit → Goes g before after l m t r
-  -- to the end, if events are told
-  pub ended : t.tells ≡ true → IsOver r ⊎ (r.more ≡ 0)
   -- no answer is taken before events are told
   pub calm : t.tells ≡ false → r.spot ≢ Err Unfit
+
+-- and r goes no further
+pub record Came (g : Ground) (before after : Cells 256) (l m : List ℕ) (t r : Turn) : Type 0 where
+  pub upto : Upto g before after l m t r
+  pub rests : Rests g.s.now r

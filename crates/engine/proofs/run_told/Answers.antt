@@ -29,14 +29,14 @@ returns-in_err-how c = let a = c.args in
 pub returns-then-events-t : goal.returns-then-events-t
 returns-then-events-t c = let a = c.args in
     let r = c.requires in
-    let (h, u) = ended_fit a.g.now _ _ c.steps-t.ensures.ready.standing (sym c.ending.ensures ∙ c.in_ok-how.was) in
+    let (h, u) = ended_fit a.g.now _ _ c.steps-t.ensures.upto.ready.standing (sym c.ending.ensures ∙ c.in_ok-how.was) in
     room_told (fed a.g.now a.store.now a.t0 r.opened r.begun c.read_store.new.cells c.read_store.ensures (sym (read_some _ _ _ c.in_ok-ok_or.ensures.value)))
     r.begun c.steps.ensures c.steps-t.ensures a.events.now a.left.now u c.put_store-size.ensures (short_by _ _ _ _ c.then-events-t.either)
 
 pub returns : goal.returns
 returns c = let a = c.args in
     let r = c.requires in
-    let (h, u) = ended_fit a.g.now _ _ c.steps-t.ensures.ready.standing (sym c.ending.ensures ∙ c.in_ok-how.was) in
+    let (h, u) = ended_fit a.g.now _ _ c.steps-t.ensures.upto.ready.standing (sym c.ending.ensures ∙ c.in_ok-how.was) in
     done_told (fed a.g.now a.store.now a.t0 r.opened r.begun c.read_store.new.cells c.read_store.ensures (sym (read_some _ _ _ c.in_ok-ok_or.ensures.value)))
     r.begun c.steps.ensures c.steps-t.ensures a.events.now a.left.now u c.put_store-size.ensures
     (enough_room _ _ _ _ c.if-events-t.false c.if-left-size.false) c.steps-2.ensures c.put_store.ensures h

@@ -1,5 +1,5 @@
 -- What the loop keeps: how far the run has come; and its measure.
-use Rattle.engine_steps.proofs.Came.{Upto}
+use Rattle.engine_steps.specs.Came.{Upto}
 use Rattle.engine_steps.proofs.steps.Given as goal
 
 abbrev pub invariant-loop-t : goal.invariant-loop-t
