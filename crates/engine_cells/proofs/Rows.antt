@@ -140,3 +140,9 @@ row_done l p σ s at n i e = subst (RowWritten l l p) (sym (read_end σ s at n i
   where
     nothing_written : RowWritten l l p (some [])
     nothing_written = refl
+
+-- ---- a row that has a size is set
+pub row_set : (o : Option (List Val)) (n : ℕ) → Some n ≡ size_of o → o ≢ none
+unfolding size_of
+row_set none n e = absurd (cc e)
+row_set (some vs) n e = λ h. cc h

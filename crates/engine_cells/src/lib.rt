@@ -2,7 +2,7 @@
 // as: u64 and usize have no From; try_from would give an error that cannot happen.
 #![tactic(auto)]
 
-ghost use Rattle.std.specs.Prelude.{◌≡◌, cond, ℕ, ◌+◌, ◌*◌, ◌<◌, ◌≤◌, leb};
+ghost use Rattle.std.specs.Prelude.{◌≡◌, ◌≢◌, cond, ℕ, ◌+◌, ◌*◌, ◌<◌, ◌≤◌, leb};
 ghost use Rattle.std.proofs.Math.Option.{none, some};
 ghost use Rattle.arith.specs.Map.{upd};
 ghost use Rattle.arith.specs.Value.{int, bool};
@@ -204,9 +204,10 @@ impl<const N: usize> Cells<N> {
         Some(size)
     }
 
-    // Their values one after the other, if each is set.
+    // Their values one after the other; each is set.
     pub fn put_row(&self, s: &[u8], at: usize, n: u8, out: &mut [u8], to: usize)
-        requires { (at + 2 * n < places) × (to + 17 * n < places) }
+        requires places { (at + 2 * n < places) × (to + 17 * n < places) }
+        requires set { read_all (store_in self.now) (row_from s.now at n) ≢ none }
         ensures { RowWritten out.old out.new to (read_all (store_in self.now) (row_from s.now at n)) }
     {
         let mut q = to;

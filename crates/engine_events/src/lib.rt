@@ -2,7 +2,8 @@
 // g: what the run rests on; out: what was lent for the events.
 #![tactic(auto)]
 
-ghost use Rattle.std.specs.Prelude.{◌≡◌, Err, true, false, cond, [], ◌∷◌, ◌+◌, ◌-◌, ◌*◌, ◌<◌, ◌≤◌, length};
+ghost use Rattle.std.specs.Prelude.{◌≡◌, ◌≢◌, Err, true, false, cond, [], ◌∷◌, ◌+◌, ◌-◌, ◌*◌, ◌<◌, ◌≤◌, length};
+ghost use Rattle.std.proofs.Math.Option.{none};
 ghost use Rattle.record.specs.Record.{type_in};
 ghost use Rattle.record.specs.Reader.{num_at};
 ghost use Rattle.record.specs.Decode.{index_from};
@@ -98,7 +99,7 @@ fn callee_at(s: &[u8], op: Op, end: usize) -> u16
     0
 }
 
-// The event of the instruction at a place, whose argument count stands at another, if each argument is set.
+// The event of the instruction at a place, whose argument count stands at another; each argument is set.
 fn put_event(
     g: &Ground,
     op: Op,
@@ -108,7 +109,8 @@ fn put_event(
     out: &mut [u8],
     to: usize,
 )
-    requires { Telling g.now op at row to }
+    requires telling { Telling g.now op at row to }
+    requires set { read_all (store_in cells.now) (args_at g.now.s.now at) ≢ none }
     ensures { EventPut g.now.s.now at out.old out.new to
         (read_all (store_in cells.now) (args_at g.now.s.now at)) }
 {

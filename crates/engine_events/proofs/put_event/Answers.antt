@@ -13,16 +13,16 @@ use Rattle.engine_events.proofs.Events.{event_put}
 use Rattle.engine_events.proofs.put_event.Goals as goal
 
 pub read_id-requires : goal.read_id-requires
-read_id-requires c = let r = c.requires in
+read_id-requires c = let r = c.requires.telling in
     (omega (arith, r.near), subst IdWidth (sym r.grounded.width) (id_width (num_at c.args.g.now.s.now 4 1)))
 
 pub put_word-requires : goal.put_word-requires
 put_word-requires c =
-    (subst IdWidth (sym c.requires.grounded.width) (id_width (num_at c.args.g.now.s.now 4 1)), c.read_id.ensures.1)
+    (subst IdWidth (sym c.requires.telling.grounded.width) (id_width (num_at c.args.g.now.s.now 4 1)), c.read_id.ensures.1)
 
 pub returns : goal.returns
 returns c = let a = c.args in
-    let r = c.requires in
+    let r = c.requires.telling in
     event_put r.loud a.row c.u8_at-n.result r.counted c.u8_at-n.ensures
     a.cells.now a.out.now _ a.g.now.w a.to c.read_id.result c.from.result
     c.callee_at.result (callee_op a.op) r.grounded.width

@@ -6,6 +6,7 @@ use native.Mathlib.Omega.{arith}
 use Rattle.record.specs.declared.NameIx.{NameIx}
 use Rattle.machine.specs.Machine.{read_all}
 use Rattle.engine_cells.specs.Cells.{store_in, size_of}
+use Rattle.engine_cells.proofs.Rows.{row_set}
 use Rattle.engine_events.specs.Turn.{args_at, EventPut}
 use Rattle.engine_events.proofs.Events.{args_by, event_past, event_told, event_unset}
 use Rattle.engine_events.proofs.tell_event.Goals as goal
@@ -19,6 +20,13 @@ returns-in_err-n c = let a = c.args in
     rw c.from_residual.ensures
     (event_unset s a.at a.out.now a.to (read (args_at s a.at))
     (c.in_err-n.ensures.0 ∙ ap (λ (xs : List NameIx). size_of (read xs)) args))
+
+pub put_event-requires-clause-set : goal.put_event-requires-clause-set
+put_event-requires-clause-set c = let a = c.args in
+    let s = a.g.now.s.now in
+    let read = read_all (store_in a.cells.now) in
+    let args = args_by c.requires.loud a.row c.u8_at.result c.requires.counted c.u8_at.ensures in
+    row_set (read (args_at s a.at)) c.in_ok-n.n (c.in_ok-n.ensures.0 ∙ ap (λ (xs : List NameIx). size_of (read xs)) args)
 
 pub returns : goal.returns
 returns c = let a = c.args in
