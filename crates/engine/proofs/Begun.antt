@@ -25,7 +25,8 @@ use Rattle.running.proofs.Cases.{engine_refuses, store_unread, answers_unread, e
 use Rattle.running.proofs.Lent.{is_done, untouched}
 use Rattle.engine_cells.specs.declared.Cells.{Cells}
 use Rattle.engine_cells.specs.Cells.{store_in}
-use Rattle.engine_house.specs.Reads.{FitAs, StoreAs, ListAs, longest_list}
+use Rattle.read_fields.specs.Opens.{longest_form}
+use Rattle.engine_house.specs.Reads.{FitAs, StoreAs, ListAs}
 use Rattle.engine_quiet.specs.declared.Ground.{Ground}
 use Rattle.engine_quiet.specs.declared.Over.{Over}
 use Rattle.engine_quiet.specs.declared.Spot.{Spot}
@@ -83,7 +84,7 @@ module _ (g : Ground) where
       go (got xs q) e h =
           let m : h.count ≡ n = cc h.are in
           let few : n ≤ length (list g) = omega (arith, m, h.few) in
-          let short : length (list g) < longest_list = h.short in
+          let short : length (list g) < longest_form = h.short in
           let ahead : events_ahead t ≤ suc n = ahead_few r n in
           record {
             told = xs;

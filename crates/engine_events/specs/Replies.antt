@@ -26,7 +26,7 @@ use Rattle.engine_events.specs.Turn.{most_event, answers_left, config_in, instr_
 abbrev pub has_dest : ℕ → Bool
 has_dest code = ltb code 64
 
--- "asks the world", with a dest or without
+-- the machine's answer from the world, for a code with a dest or without
 unfoldable pub reply : Bool → ℕ → Instr → Mach → Event → List Answer → Step
 reply true t i m e xs = answered t i m e xs
 reply false t i m e xs = acknowledged m e xs

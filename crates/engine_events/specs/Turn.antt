@@ -107,7 +107,8 @@ pub record Does (g : Ground) (before after : Cells 256) (l m : List ℕ) (t r : 
   pub takes : take_step (told_types g.types.now) (blocks_of g) (config_in g before t) ≡ shifted added 1 (config_in g after r)
   pub wrote : Wrote l m t.event r.event (events_bytes (id_width g.s.now) added)
 
--- or the answer that it takes does not fit
+-- or the answer that it takes does not fit: then nothing is said of the cells, of what is written and of where it ends, since nothing of such
+-- a run is handed on
 pub record Stepped (g : Ground) (before after : Cells 256) (l m : List ℕ) (t r : Turn) : Type 0 where
   pub ready : Ready g r
   pub more : r.more ≡ t.more

@@ -26,9 +26,9 @@ const VALUE_CALL: u8 = 20;
 
 const EFFECT_CALL: u8 = 67;
 
-// A run: where it stands or how it is over, how many steps it may still take, the place of the next answer and how many are left, the place behind the events,
-// and whether events are told or the run waits before the first. What is left of the list as a slice would say where the next answer is, but
-// not how many are left, by which the events that can still come are bounded.
+// A run: where it stands or how it is over, how many steps it may still take, the place of the next answer and how many are left, the place
+// behind the events, and whether events are told or the run waits before the first. What is left of the list as a slice would say where the
+// next answer is, but not how many are left, by which the events that can still come are bounded.
 #[derive(Clone, Copy, PartialEq, Eq, Debug)]
 pub struct Turn {
     pub spot: Result<Spot, Over>,

@@ -19,8 +19,8 @@ use Rattle.running.specs.House.{go_on_byte, halt_byte, value_type, answer_test, 
 use Rattle.running.specs.Items.{answer_from, answer_end}
 use Rattle.running.proofs.Items.{answer_decodes}
 use Rattle.std.proofs.Common.{Option as CodeOption, None, Some}
-use Rattle.read_fields.specs.Opens.{opens}
-use Rattle.engine_house.specs.Reads.{EndAs, Sure, longest_list, ListAs}
+use Rattle.read_fields.specs.Opens.{opens, longest_form}
+use Rattle.engine_house.specs.Reads.{EndAs, Sure, ListAs}
 use Rattle.engine_house.proofs.Values.{Faulty}
 use Rattle.engine_house.proofs.Form.{up_to_end, form_opens, form_closed, one_then, none_left}
 
@@ -124,7 +124,7 @@ module _ (s : List ℕ) where
   unfolding answers ListAs
   list_closed o = rw (form_closed (to_end (length s) house_answer) s o).is refl
 
-  pub list_start : opens 5 1 s ≡ true → length s < longest_list → ListLoop 5 0
+  pub list_start : opens 5 1 s ≡ true → length s < longest_form → ListLoop 5 0
   unfolding answers ListAs ComesAs
   list_start o short r h =
       let n : length s ≡ length s - 0 = omega arith in

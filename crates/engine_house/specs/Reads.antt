@@ -86,10 +86,6 @@ unfoldable pub Sure : List ℕ → ℕ → ℕ → Type 0
 Sure s at zero = Unit {0}
 Sure s at (suc n) = ((eqb (num_at s at 1) go_on_byte || (eqb (num_at s at 1) halt_byte || value_type (num_at s at 1))) ≡ true) × Sure s (answer_end s at) n
 
--- a list longer than its length says is none: its length has four bytes
-abbrev pub longest_list : ℕ
-longest_list = longest_form
-
 -- n answers, which are xs
 pub record ListOf (s : List ℕ) (xs : List Answer) (r : CodeOption ℕ) : Type 0 where
   pub count : ℕ
@@ -97,7 +93,7 @@ pub record ListOf (s : List ℕ) (xs : List Answer) (r : CodeOption ℕ) : Type 
   pub those : xs ≡ items (answer_from s) (answer_end s) 5 count
   pub sure : Sure s 5 count
   pub few : count ≤ length s
-  pub short : length s < longest_list
+  pub short : length s < longest_form
 
 unfoldable pub ListAs : List ℕ → Res (List Answer) → CodeOption ℕ → Type 0
 ListAs s (got xs p) r = ListOf s xs r

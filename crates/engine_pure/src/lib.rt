@@ -1,5 +1,6 @@
 // What const and the operators do to the store: their operands read from the cells, the result put into dest's cell.
-// at: the place behind an instruction's code, where dest stands; behind its two bytes a count of one, the operands, of two each, from at + 3 on.
+// at: the place behind an instruction's code, where dest stands in two bytes; then comes the count, in one, and from at + 3 on the operands, two
+// each.
 // s, a place and cells are a parameter each, and that a place lies in s is asked of each place: a struct of them would be made for an operation
 // and taken apart by the operands.
 #![tactic(auto)]

@@ -83,7 +83,7 @@ module _ (s store list : List ℕ) (limit : ℕ) (events left : List ℕ) where
       let m = engine_is_machine s store list limit events left e l k how h in
       limit_said (function (plain m.given.rec)) (holding m.given.values) m.given.told limit how m.mach m.ended
 
-  -- Where it is spent, the steps are the limit, and events and store are those that the machine has then.
+  -- Where it is spent, the steps are the limit; events and store are then the machine's, by `does_what_the_machine_does`.
   pub limit_is_counted : (e l k : ℕ) → engine s store list limit events left ≡ done e l k Limit → k ≡ limit
   limit_is_counted e l k h =
       let m = engine_is_machine s store list limit events left e l k Limit h in

@@ -39,9 +39,6 @@ pub behind_more : (c : ℕ) (s : List ℕ) → is_ascii_digit c ≡ true → beh
 behind_more c s h = sym (ap (λ ds. drop (length ds) (c ∷ s)) (digits_more c s h))
 
 -- no more
-pub value_none : (n c : ℕ) (s : List ℕ) → is_ascii_digit c ≡ false → n % 2 ^ 64 ≡ value_after n (c ∷ s)
-value_none n c s h = rw h refl
-
 pub behind_none : (c : ℕ) (s : List ℕ) → is_ascii_digit c ≡ false → c ∷ s ≡ behind (c ∷ s)
 behind_none c s h = rw h refl
 

@@ -1,5 +1,5 @@
--- The cases of a call in their order: check's refusal, 13, 14, done. Each inputs' case has its answer, and each answer its case; what
--- 13's is comes to is in Unfit.
+-- The cases of a call in their order: check's refusal, 13, 14, done. Each case of inputs has its answer, and each answer its case; when 13
+-- comes is in Unfit.
 use Prim.Native.Nat.{ℕ}
 use mathlib.Core.Path.{◌≡◌, refl, sym, ap, ◌∙◌}
 use mathlib.Core.Bool.{Bool, true, false, cond}

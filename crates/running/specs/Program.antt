@@ -31,7 +31,7 @@ part s from to = take (to - from) (drop from s)
 unfoldable pub returned_bytes : Returned → List ℕ
 returned_bytes a = be 1 a.number ++ join (map (be 8) a.values)
 
--- "when done the events and then the store"
+-- where the run is done, the events and then the store
 unfoldable pub bytes_left : Outcome → List ℕ
 bytes_left (refused k o) = []
 bytes_left unfit = []

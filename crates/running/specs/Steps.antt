@@ -1,4 +1,4 @@
--- The plain machine by single steps, "with a step limit": the same `step`, counted one by one where a run counts blocks.
+-- The plain machine by single steps, as "a step limit" counts them: the same `step`, one by one where a run counts blocks.
 use Rattle.std.specs.Prelude.{ℕ, zero, suc, ◌+◌, Bool, true, false, List, [], ◌∷◌, ◌++◌, drop}
 use Rattle.std.proofs.Math.Option.{Option, none, some}
 use Rattle.record.specs.Record.{Instr, Block}
