@@ -181,7 +181,7 @@ def unset():
     yield done("an argument that is not set", names + "2 print a\n", [None] * 6, [], 9, UNSET, 1)
     yield done("unset, not reached", names + "1 nop\n2 print u\n", [i(0)] + [None] * 5, [], 1, LIMIT, 1)
     yield done("unset before a zero", names + "1 x = div u a\n", [i(0)] + [None] * 5, [], 1, UNSET, 1)
-    yield done("nothing may be copied", names + "1 x = id u\n2 print x\n", [i(0), i(3)] + [None] * 4, [GO_ON], 9, END, 2)
+    yield done("a name that is set may be copied", names + "1 x = id u\n2 print x\n", [i(0), i(3)] + [None] * 4, [GO_ON], 9, END, 2)
 
 
 def divisions():
@@ -308,20 +308,28 @@ FINE = [i(6), HALT]
 def forms(items, fine):
     """Malformed house forms around good items, of which only these parts read: a label, and the bytes."""
     good = framed(items)
-    for size in (0, 1, 3, 4, 5, len(good) - 1):
+    for size in (0, 1, 2, 3, 4, 5, len(good) - 1):
         yield "cut", good[:size]
     for size in range(4, len(good)):
         if size == 4 or items[:size - 5] not in fine:
             yield "cut, with its length", struct.pack(">I", size - 4) + good[4:size]
     yield "a byte more", good + b"\x00"
-    for delta in (-1, 1, 256, 1 << 24):
+    for delta in (-1, 1, 4, 256, 1 << 16, 1 << 24):
         yield "another length", struct.pack(">I", len(good) - 4 + delta) + good[4:]
     for version in (0, 2, 255):
         yield "another version", good[:4] + bytes([version]) + good[5:]
 
 
-BAD_ITEMS = [bytes([t]) + bytes(n) for t, n in [(5, 8), (0x0F, 8), (0x14, 16), (0x14, 8), (0x24, 16), (0xF4, 16), (0xFC, 16), (0xFC, 0)]]
-BAD_ITEMS += [value_bytes(v) for v in [b(2), b(256), b(1 << 63), c(0xD800), c(0xDFFF), c(0x110000), c(1 << 32), c(FOREVER)]]
+def sized(type_, *sizes):
+    """A type byte with so many bytes behind it, for each of the sizes."""
+    return [bytes([type_]) + bytes(n) for n in sizes]
+
+
+NO_BOOLS = [value_bytes(b(n)) for n in (2, 3, 256, 257, 1 << 32, 1 << 56, 1 << 63, FOREVER)]
+NO_CHARS = [value_bytes(c(n)) for n in (0xD800, 0xDBFF, 0xDC00, 0xDFFF, 0x110000, 1 << 32, 0x61 << 56, FOREVER)]
+NO_TYPES = [(5, 8), (0x0F, 8), (0x14, 16), (0x14, 8), (0x24, 16), (0xF4, 16), (0xFC, 16), (0xFC, 0), (8, 8), (0x18, 16), (0x1F, 16)]
+CUT_OFF = [(0x10, 8), (0x10, 15), (0xF3, 8)]
+BAD_ITEMS = [item for t, n in NO_TYPES + CUT_OFF for item in sized(t, n)] + NO_BOOLS + NO_CHARS
 GOOD_ITEMS = [b(0), b(1), c(0xD7FF), c(0xE000), c(0x10FFFF), i(-1), f(FOREVER), h(1), p(0xF3, 1, 1), p(0x11, 0, 2), p(0x12, 1, 5)]
 
 
@@ -333,9 +341,9 @@ def malformed():
     for what, data in forms(value_bytes(i(6)) + bytes([HALT]), [b"", value_bytes(i(6))]):
         yield refused("answers, " + what, FRAME, GIVEN, data, 9)
     first, second = map(value_bytes, GIVEN)
-    for bad in [bytes([GO_ON]), bytes([HALT]), *BAD_ITEMS]:
+    for bad in [*sized(GO_ON, 0, 8, 16), *sized(HALT, 0, 8, 16), *BAD_ITEMS]:
         yield refused("in the store", FRAME, framed(first + bad), answers, 0)
-    for bad in [bytes([NOTHING]), bytes([NOTHING]) + bytes(8), bytes([NOTHING]) + bytes(16), *BAD_ITEMS]:
+    for bad in [*sized(NOTHING, 0, 8, 16), *BAD_ITEMS]:
         yield refused("in the answers, not taken", FRAME, GIVEN, framed(bytes([HALT]) + bad), 0)
     for bad in (bytes([NOTHING]), bytes([0x14]) + bytes(16), value_bytes(c(0xD800))):
         yield refused("in the answers, first", FRAME, GIVEN, framed(bad), 9)
@@ -345,6 +353,54 @@ def malformed():
         yield refused("too many values", FRAME, framed(items + more), answers, 9)
     yield refused("a value for no name", "block\n1 nop\n", [None], [], 9)
     yield done("no value for no name", "block\n1 nop\n", [], [], 9, END, 1)
+
+
+# Of each type: what is cut off, has a byte too many or is no value of it; and values at the edges
+OWN = [
+    ("int", sized(INT, 0, 1, 7, 9), [i(LEAST), i(GREATEST)]),
+    ("bool", sized(BOOL, 0, 7, 9) + NO_BOOLS, [b(0), b(1)]),
+    ("float", sized(FLOAT, 0, 7, 9) + sized(HELD, 0, 7, 9), [f(0x7FF8000000000001), f(FOREVER), h(LEAST)]),
+    ("char", sized(CHAR, 0, 7, 9) + NO_CHARS, [c(0), c(0xD7FF), c(0xE000), c(0x10FFFF)]),
+    ("ptr<int>", sized(0x10, 0, 1, 7, 8, 9, 15, 17), [p(0x10, FOREVER, -1)]),
+    (TYPED[0xF3], sized(0xF3, 0, 7, 8, 15, 17), [p(0xF3, 0, FOREVER)]),
+]
+
+
+def of_own_type():
+    """Each in the place of a name, and of a dest, of that type: it is refused because it does not read."""
+    x = value_bytes(i(5))
+    for kind, bad, good in OWN:
+        text = "arg x int\nname y %s\nblock\n1 y = call @1 x\n" % kind
+        for item in bad:
+            yield refused("in the store", text, framed(x + item), [], 0)
+            yield refused("in the answers, taken", text, [i(5), None], framed(item), 1)
+            yield refused("in the answers, behind the limit", text, [i(5), None], framed(item), 0)
+        for value in good:
+            yield done("fine, in the store", text, [i(5), value], [], 0, LIMIT, 0)
+            yield done("fine, taken", text, [i(5), None], [value], 1, END, 1)
+
+
+def in_each_place():
+    """Items that do not read in front of others, and what is cut off but goes on with the bytes that follow."""
+    base, short = *sized(0x10, 8), *sized(INT, 7)
+    nothing, pair = bytes([NOTHING]), "name p ptr<int>\nname x int\nblock\n"
+    for what, rest in [("an int", value_bytes(i(5))), ("nothing", nothing), ("no byte", b"")]:
+        yield refused("a base, then " + what, pair, framed(base + rest), [], 0)
+    yield done("a base, then an offset and nothing", pair, framed(base + value_bytes(i(NOTHING))), [], 0, END, 0)
+    ints = "name x int\nname y int\nblock\n"
+    yield refused("seven bytes of an int, then FF", ints, framed(short + nothing), [], 0)
+    yield done("seven bytes of an int, then FF and nothing", ints, framed(short + nothing + nothing), [], 0, END, 0)
+    told = [framed(bytes([HALT]) + base + bytes([GO_ON]) * count) for count in (7, 8, 9)]
+    yield refused("a base, then seven bytes FE", FRAME, GIVEN, told[0], 1)
+    yield done("a base, then an offset of bytes FE", FRAME, GIVEN, told[1], 1, HALTED, 1)
+    yield done("a base, then an offset of bytes FE and go on", FRAME, GIVEN, told[2], 1, HALTED, 1)
+    bad_items = [*sized(5, 8), *sized(0x14, 16), NO_BOOLS[0], NO_CHARS[0]]
+    for bad in [bytes([GO_ON]), bytes([HALT]), *bad_items]:
+        yield refused("in the store, first", FRAME, framed(bad + value_bytes(GIVEN[1])), [], 0)
+    for bad in [nothing, *bad_items]:
+        yield refused("in the answers, in the middle", FRAME, GIVEN, framed(bytes([HALT]) + bad + bytes([GO_ON])), 9)
+    for what, text, store in [("no block", "", []), ("the end", "name x int\nblock\n", [i(1)]), ("unset", FRAME, [None, None])]:
+        yield refused("answers that do not read, " + what, text, store, framed(base), 9)
 
 
 def stored_types():
@@ -376,5 +432,6 @@ def checked_first():
 
 
 def by_hand():
-    for part in (operations, constants, answered, at_the_limit, ends, unset, divisions, loops, wide, malformed, stored_types, checked_first):
+    for part in (operations, constants, answered, at_the_limit, ends, unset, divisions, loops, wide, malformed, of_own_type, in_each_place,
+                 stored_types, checked_first):
         yield from part()
