@@ -1,6 +1,6 @@
-//! Times the engine beside the plain interpreter, both for the whole call: a loop of arithmetic, a loop that prints, and a
-//! straight block. The engine tests the record too, which the interpreter takes for granted; it is lent what it writes to, which
-//! the interpreter allocates.
+//! Times the engine beside the plain interpreter, both for the whole call: a loop of arithmetic of three lengths, to show that
+//! time is linear in steps, a loop that prints, and a straight block. The engine tests the record too, which the interpreter takes
+//! for granted; it is lent what it writes to, which the interpreter allocates.
 
 use crate::clock::{middles, now};
 use crate::engine;
@@ -43,7 +43,7 @@ fn timed(name: &'static str, f: &Function, n: i64, answers: &[Answer], repeats: 
     Timed { name, record: encode(f), store: store_bytes(&store), answers, repeats }
 }
 
-fn all() -> [Timed; 3] {
+fn all() -> [Timed; 5] {
     let names = [(INT, "n"), (INT, "one"), (INT, "zero"), (INT, "i"), (INT, "s"), (INT, "t"), (BOOL, "c")];
     let [n, one, zero, i, s, t, c] = [0, 1, 2, 3, 4, 5, 6];
     let first = vec![op(1, 13, i, &[zero]), op(2, 13, s, &[zero])];
@@ -61,7 +61,10 @@ fn all() -> [Timed; 3] {
     let looped = function(&names, vec![first.clone(), sums, last.clone()]);
     let printed = function(&names, vec![first, prints, last]);
     [
+        // Two ids, five steps for each of n turns, and ret.
+        timed("a loop of arithmetic, 10,003 steps", &looped, 2_000, &[], 20),
         timed("a loop of arithmetic, 1,000,003 steps", &looped, 200_000, &[], 1),
+        timed("a loop of arithmetic, 10,000,003 steps", &looped, 2_000_000, &[], 1),
         timed("a loop with 100,000 prints", &printed, PRINTS, &[Answer::GoOn; PRINTS as usize], 1),
         timed("a straight block of 256", &function(&names, vec![straight]), 7, &[], 100),
     ]
@@ -85,7 +88,7 @@ fn turn<'a>(repeats: usize, mut call: impl FnMut() + 'a) -> impl FnMut() -> i64 
     }
 }
 
-/// Times all three; whether both sides write the same.
+/// Times each; whether both sides write the same.
 pub fn run(seconds: u64) -> bool {
     println!("runs: ns for a call and for a step; a ratio is the plain interpreter's time over ours");
     println!("| run | steps | bytes of events | engine | per step | interpreter | per step | ratio |");
