@@ -403,16 +403,31 @@ def in_each_place():
         yield refused("answers that do not read, " + what, text, store, framed(base), 9)
 
 
-def stored_types():
-    kinds = [("int", INT), ("bool", BOOL), ("float", FLOAT), ("char", CHAR), ("ptr<int>", 0x10), ("ptr<ptr<bool>>", 0x21)]
-    values = [i(1), b(1), f(1), c(1), h(1), p(0x10, 1, 1), p(0x21, 1, 1)]
-    for kind, type_ in kinds:
-        for value in values:
-            text = "name x %s\nblock\n" % kind
+TYPES = [("int", INT), ("bool", BOOL), ("float", FLOAT), ("char", CHAR), ("ptr<int>", 0x10), ("ptr<ptr<bool>>", 0x21), ("ptr<float>", 0x12)]
+OF_TYPES = [i(1), b(1), f(1), c(1), h(1), p(0x10, 1, 1), p(0x21, 1, 1), p(0x11, 1, 1), p(0x12, 1, 1), p(0x20, 1, 1)]
+
+
+def types():
+    """Each value in the place of each type, in the store and as an answer."""
+    for kind, type_ in TYPES:
+        name = "name x %s\nblock\n" % kind
+        for value in OF_TYPES:
             if value[0] == type_ or (value[0], type_) == (HELD, FLOAT):
-                yield done("of its type", text, [value], [], 0, END, 0)
+                yield done("of its type", name, [value], [], 0, END, 0)
+                yield done("an answer of its type", name + "1 x = call @1\n", [None], [value], 1, END, 1)
             else:
-                yield refused("of another type", text, [value], [], 0)
+                yield refused("of another type", name, [value], [], 0)
+                yield refused("an answer of another type", name + "1 x = call @1\n", [None], [value], 1)
+
+
+def another_type():
+    """One value in the store, of an argument or another name, is of another type."""
+    names = "arg a int\narg p ptr<char>\nname x float\nname y bool\nblock\n"
+    store = [i(1), p(0x13, 2, 3), h(4), b(1)]
+    yield done("each of its type", names, store, [], 0, END, 0)
+    for place, bad in enumerate([b(1), p(0x10, 2, 3), i(4), c(1)]):
+        yield refused("one of another", names, store[:place] + [bad] + store[place + 1:], [], 0)
+        yield refused("alone, of another", names, [None] * place + [bad] + [None] * (3 - place), [], 0)
 
 
 def checked_first():
@@ -433,5 +448,5 @@ def checked_first():
 
 def by_hand():
     for part in (operations, constants, answered, at_the_limit, ends, unset, divisions, loops, wide, malformed, of_own_type, in_each_place,
-                 stored_types, checked_first):
+                 types, another_type, checked_first):
         yield from part()
