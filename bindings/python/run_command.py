@@ -172,13 +172,21 @@ def unfit(program, record, store, items, limit):
     return few
 
 
+def whole(record):
+    """Whether its L is the rest. The program finds the store by L, and could answer neither this record nor the store behind it."""
+    return len(record) >= 4 and int.from_bytes(record[:4], "big") == len(record) - 4
+
+
 def shown(program, record, settings, answers, limit):
     """Status and lines."""
+    items = told(answers)
+    if not whole(record):
+        return 1, ["refused 1 at 0"]  # check's first test
     try:
         names = read(record).names
     except Fault:
         names, settings = [], []  # check refuses it
-    items, store = told(answers), starting(names, settings)
+    store = starting(names, settings)
     number, values, rest = ran(program, record, store, items, limit)
     if number == 13:
         k = unfit(program, record, store, items, limit)
