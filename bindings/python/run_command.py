@@ -27,7 +27,7 @@ from record import FLOAT, INT, signed, type_text
 HELD, GO_ON, HALT, NOTHING, POINTER = 4, 0xFE, 0xFD, 0xFF, 0x10
 CALLS = 20, 67
 ENDS = "end", "ret", "halt", "unset", "division", "limit"
-PLACE = re.compile(r"([0-9]+)(?:([+-])([0-9]+))?")
+PLACE = re.compile(r"([0-9]{1,20})(?:([+-])([0-9]{1,20}))?")
 MOST = 2**64 - 1
 
 
@@ -43,7 +43,7 @@ def words(kind, *numbers):
 
 def pointer(kind, text):
     place = PLACE.fullmatch(text)
-    if not place or kind < POINTER or int(place[1]) > MOST or int(place[3] or 0) > MOST:
+    if not place or int(place[1]) > MOST or int(place[3] or 0) > MOST:
         raise Fault("no base and offset of a pointer: %s" % text)
     offset = int(place[3] or 0)
     return words(kind, int(place[1]), -offset % 2**64 if place[2] == "-" else offset)
@@ -51,6 +51,8 @@ def pointer(kind, text):
 
 def typed(kind, text):
     """The bytes of a value of a type that is known."""
+    if not text:
+        raise Fault("no value")
     if kind >= POINTER:
         return pointer(kind, text)
     found, bits = literal(text)
@@ -61,11 +63,17 @@ def typed(kind, text):
     raise Fault("%s is no %s" % (text, type_text(kind)))
 
 
+def says_type(text):
+    return ":" in text and text[0] != "'"
+
+
 def value(text):
-    """The bytes of a value that says its type."""
-    if ":" in text and text[0] != "'":
+    """The bytes of a value that says its type, or of a literal."""
+    if says_type(text):
         of, rest = text.split(":", 1)
         return typed(type_of(of), rest)
+    if not text:
+        raise Fault("no value")
     return words(*literal(text))
 
 
@@ -98,9 +106,9 @@ def starting(names, settings):
         if name not in types:
             raise Bad("--set %s: the record has no name %s" % (setting, name))
         try:
-            items[name] = value(text) if ":" in text and text[0] != "'" else typed(types[name], text)
-        except (Fault, IndexError, ValueError) as e:
-            raise Bad("--set %s: %s" % (setting, e or "no value")) from None
+            items[name] = value(text) if says_type(text) else typed(types[name], text)
+        except Fault as e:
+            raise Bad("--set %s: %s" % (setting, e)) from None
         if items[name][0] != types[name] and (items[name][0], types[name]) != (HELD, FLOAT):
             raise Bad("--set %s: %s is of type %s" % (setting, name, type_text(types[name])))
     return form(b"".join(items[text] for _, text in names))
@@ -111,8 +119,8 @@ def told(answers):
     for text in answers:
         try:
             items.append(answer(text))
-        except (Fault, IndexError, ValueError) as e:
-            raise Bad("--answer %s: %s" % (text, e or "no value")) from None
+        except Fault as e:
+            raise Bad("--answer %s: %s" % (text, e)) from None
     return items
 
 
@@ -234,7 +242,7 @@ def main(program, *words):
             raise Bad("%s: %s" % (path, getattr(e, "strerror", None) or "cannot be read")) from None
         status, lines = shown(program, record, settings, answers, limit)
     except Bad as bad:
-        print("lvn: %s" % bad, file=sys.stderr)
+        print("lvn: %s" % " ".join(str(bad).splitlines()), file=sys.stderr)  # a word may have several lines
         sys.exit(2)
     out = "".join(line + "\n" for line in lines).encode()
     try:

@@ -24,6 +24,7 @@ LABEL = re.compile(r"\.[A-Za-z0-9_.]+")
 INT_TEXT = re.compile(r"-?[0-9]{1,19}")
 FLOAT_TEXT = re.compile(r"-?(inf|[0-9]+\.[0-9]+(e[-+]?[0-9]+)?|[0-9]+e[-+]?[0-9]+)")
 BITS_TEXT = re.compile(r"0x[0-9a-f]{16}")
+CHAR_TEXT = re.compile(r"'(?:\\u\{([0-9a-f]{1,6})\}|(.))'")
 BYTE, WORD, LONG = (1 << 8) - 1, (1 << 16) - 1, (1 << 32) - 1
 
 
@@ -69,8 +70,9 @@ def literal(text):
         return FLOAT, float_bits(text)
     if BITS_TEXT.fullmatch(text):
         return FLOAT, int(text, 16)
-    if text[0] == "'":
-        scalar = ord(text[1]) if len(text) == 3 else int(text[4:-2], 16)
+    char = CHAR_TEXT.fullmatch(text)
+    if char:
+        scalar = ord(char[2]) if char[2] else int(char[1], 16)
         if is_scalar(scalar):
             return CHAR, scalar
     raise Fault("no literal: %s" % text)
