@@ -1,13 +1,17 @@
-"""What ./lvn run does: run_command.py PROGRAM RECORD [--set NAME=VALUE ..] [--answer VALUE ..] [--steps N].
+"""./lvn run RECORD [--set NAME=VALUE ..] [--answer VALUE ..] [--steps N]
 
 Lends the proved program the record, a store and a list of answers in the house form and the limit, and prints what it answers: the events
-as Bril's calls and prints, the final store by name, the steps and how the run ended.
+as Bril's calls and prints, the final store by name, the steps and how the run ended. RECORD is a file, - for standard input.
 
 A VALUE is a literal as in Bril's text: 5, true, 1.5, 'a', 0x and 16 digits for the bits of a float. Of a pointer it is its type, base and
-offset, as ptr<int>:100+8; of an int literal held by a float float:5. A name that is set may leave out its own type: 100+8, and 5 for a
-float that holds the literal 5. Answers may also be go and halt.
+offset, as ptr<int>:100+8, or without the offset if that is 0; of an int literal held by a float float:5. A name that is set may leave out
+its own type: 100+8, and 5 for a float that holds the literal 5. Answers may also be go and halt. A name that is not set holds nothing;
+an event for which no answer is left halts the run.
 
-Ends with 0 if it ran, 1 if it was refused and the line that says so was written, 2 for a bad value or wrong use.
+Without --steps N is 2^64-1: a run that never ends is not stopped.
+
+Ends with 0 if it ran, 1 if it was refused and the line that says so was written, 2 for a bad value or wrong use, 3 if not all could be
+written, 130 if it was interrupted.
 """
 
 import os
@@ -17,7 +21,8 @@ import sys
 from pathlib import Path
 
 sys.dont_write_bytecode = True
-sys.path[:0] = [str(Path(__file__).resolve().parents[2] / "tools" / part) for part in ("view", "vectors")]
+TOP = Path(__file__).resolve().parents[2]
+sys.path[:0] = [str(TOP / "tools" / part) for part in ("view", "vectors")]
 
 from parsing import literal, type_of
 from printing import OPERATIONS, literal_text
@@ -29,6 +34,12 @@ CALLS = 20, 67
 ENDS = "end", "ret", "halt", "unset", "division", "limit"
 PLACE = re.compile(r"([0-9]{1,20})(?:([+-])([0-9]{1,20}))?")
 MOST = 2**64 - 1
+NOTES = {  # of what running/Program sets: how much it reads, and lends for the events
+    10: "record, store, answers and limit (8 bytes) may have 262,144 bytes together; the library's run takes more",
+    14: "1,048,576 bytes are lent for the events; the library's run can be lent more",
+}
+PROGRAM = TOP / "crates/lvn_run/out/lvn_run"
+USAGE = __doc__.splitlines()[0].removeprefix("./lvn ")
 
 
 class Bad(Exception):
@@ -161,10 +172,17 @@ def store_lines(data, names):
 
 # ---- the program
 
-def ran(program, record, store, items, limit):
+def build():
+    """Has the script make the program where it is stale; what goes wrong there is said there."""
+    status = subprocess.run([TOP / "lvn", "run", "--build"]).returncode
+    if status:
+        sys.exit(status)
+
+
+def ran(record, store, items, limit):
     """Number, values and what follows them, as the program answers."""
     lent = record + store + form(b"".join(items)) + limit.to_bytes(8, "big")
-    out = subprocess.run([program], input=lent, stdout=subprocess.PIPE).stdout
+    out = subprocess.run([PROGRAM], input=lent, stdout=subprocess.PIPE).stdout
     if not out:
         raise Bad("the program ended without an answer")
     count = {0: 5, 14: 2}.get(out[0], 1)
@@ -172,12 +190,20 @@ def ran(program, record, store, items, limit):
     return out[0], [found.number(8) for _ in range(count)], out[1 + 8 * count:]
 
 
-def unfit(program, record, store, items, limit):
-    """The first answer with which the run is refused; without it, it is not."""
-    few = 0
-    while ran(program, record, store, items[:few], limit)[0] != 13:
+def unfit(record, store, items, limit):
+    """The number of the first answer with which the run is refused."""
+    few = 1
+    while ran(record, store, items[:few], limit)[0] != 13:
         few += 1
     return few
+
+
+def unfit_text(number, text, item, names):
+    said = "refused 13: answer %d, %s, does not fit its instruction" % (number, text)
+    if item[0] == INT and FLOAT in (kind for kind, _ in names):  # not taken for a float: of an answer no name says the type
+        literal_ = signed(int.from_bytes(item[1:], "big"))
+        said += "; for a float the int literal is float:%d and the number %d.0" % (literal_, literal_)
+    return said
 
 
 def whole(record):
@@ -185,27 +211,28 @@ def whole(record):
     return len(record) >= 4 and int.from_bytes(record[:4], "big") == len(record) - 4
 
 
-def shown(program, record, settings, answers, limit):
-    """Status and lines."""
+def shown(record, settings, answers, limit):
+    """Status, lines, and a note where one is needed."""
     items = told(answers)
     if not whole(record):
-        return 1, ["refused 1 at 0"]  # check's first test
+        return 1, ["refused 1 at 0"], None  # check's first test
     try:
         names = read(record).names
     except Fault:
         names, settings = [], []  # check refuses it
     store = starting(names, settings)
-    number, values, rest = ran(program, record, store, items, limit)
+    build()
+    number, values, rest = ran(record, store, items, limit)
     if number == 13:
-        k = unfit(program, record, store, items, limit)
-        return 1, ["refused 13: answer %d, %s, does not fit its instruction" % (k, answers[k - 1]) if k else "refused 13"]
+        k = unfit(record, store, items, limit)
+        return 1, [unfit_text(k, answers[k - 1], items[k - 1], names)], None
     if number == 14:
-        return 1, ["refused 14: the events need %d bytes and the store %d" % tuple(values)]
+        return 1, ["refused 14: the events need %d bytes and the store %d" % tuple(values)], NOTES[14]
     if number:
-        return 1, ["refused %d at %d" % (number, values[0])]
+        return 1, ["refused %d at %d" % (number, values[0])], NOTES.get(number)
     events, size, steps, ended, id_ = values
     lines = [*event_lines(rest[:events], 4), *store_lines(rest[events:events + size], names)]
-    return 0, [*lines, "steps %d" % steps, "ended by %s%s" % (ENDS[ended], " #%d" % id_ if ended == 4 else "")]
+    return 0, [*lines, "steps %d" % steps, "ended by %s%s" % (ENDS[ended], " #%d" % id_ if ended == 4 else "")], None
 
 
 def wanted(words):
@@ -227,20 +254,27 @@ def wanted(words):
         elif record is None and not word.startswith("--"):
             record = word
         else:
-            raise Bad("%s: not understood; run RECORD [--set NAME=VALUE ..] [--answer VALUE ..] [--steps N]" % word)
+            raise Bad("%s: not understood; %s" % (word, USAGE))
     if record is None:
-        raise Bad("a record is needed: run RECORD [--set NAME=VALUE ..] [--answer VALUE ..] [--steps N]")
+        raise Bad("a record is needed: %s" % USAGE)
     return record, settings, answers, limit
 
 
-def main(program, *words):
+def answered(words):
+    """Status, lines and note for the words behind run."""
+    if words[:1] in (["--help"], ["-h"]):
+        return 0, __doc__.splitlines(), None
+    path, settings, answers, limit = wanted(words)
     try:
-        path, settings, answers, limit = wanted(words)
-        try:
-            record = sys.stdin.buffer.read() if path == "-" else Path(path).read_bytes()
-        except (AttributeError, OSError) as e:
-            raise Bad("%s: %s" % (path, getattr(e, "strerror", None) or "cannot be read")) from None
-        status, lines = shown(program, record, settings, answers, limit)
+        record = sys.stdin.buffer.read() if path == "-" else Path(path).read_bytes()
+    except (AttributeError, OSError) as e:
+        raise Bad("%s: %s" % (path, getattr(e, "strerror", None) or "cannot be read")) from None
+    return shown(record, settings, answers, limit)
+
+
+def main(words):
+    try:
+        status, lines, note = answered(words)
     except Bad as bad:
         print("lvn: %s" % " ".join(str(bad).splitlines()), file=sys.stderr)  # a word may have several lines
         sys.exit(2)
@@ -251,8 +285,13 @@ def main(program, *words):
     except OSError:
         print("lvn: not all could be written", file=sys.stderr)
         sys.exit(3)
+    if note:
+        print("lvn: %s" % note, file=sys.stderr)
     sys.exit(status)
 
 
 if __name__ == "__main__":
-    main(*sys.argv[1:])
+    try:
+        main(sys.argv[1:])
+    except KeyboardInterrupt:
+        sys.exit(130)  # as a shell says that a command was interrupted
