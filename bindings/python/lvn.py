@@ -257,17 +257,25 @@ def _lent(buffer: Any) -> Tuple[Any, int]:
     return (ctypes.c_uint8 * count).from_buffer(buffer) if count else ctypes.c_uint8(), count
 
 
+def _overlap(one: Any, count: int, two: Any, more: int) -> bool:
+    first, second = ctypes.addressof(one), ctypes.addressof(two)
+    return first < second + more and second < first + count
+
+
 def run_into(record: Bytes, store: Bytes, answers: Bytes, limit: int, events: Any, left: Any) -> Ended:
     """Runs a record from a starting store with a list of answers, both in the house form, for at most limit steps.
 
     The events go to the start of one buffer, such as a bytearray, and the final store to that of another; the bytes beyond stay as they
-    were. Raises Refused, Unfit, or Short if a buffer is too short; then both stay as they were.
+    were. Raises Refused, Unfit, or Short if a buffer is too short; then both stay as they were. Buffers that overlap are a ValueError.
     """
     record, store, answers, answer = _bytes(record), _bytes(store), _bytes(answers), _Ran()
-    if not 0 <= operator.index(limit) < 2**64:
+    limit = operator.index(limit)
+    if not 0 <= limit < 2**64:
         raise ValueError("a limit is a number of 64 bits")
     told, room = _lent(events)
     final, more = _lent(left)
+    if _overlap(told, room, final, more):
+        raise ValueError("the buffers for the events and for the final store overlap")
     number = _run(record, len(record), store, len(store), answers, len(answers), limit, ctypes.byref(told), room, ctypes.byref(final), more,
                   ctypes.byref(answer))
     del told, final

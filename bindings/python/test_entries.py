@@ -239,7 +239,30 @@ class Runs(unittest.TestCase):
     def test_limits(self):
         self.assertRaises(ValueError, lvn.run, NONE, NO_ITEMS, NO_ITEMS, -1)
         self.assertRaises(ValueError, lvn.run, NONE, NO_ITEMS, NO_ITEMS, 2**64)
+        self.assertRaises(TypeError, lvn.run, NONE, NO_ITEMS, NO_ITEMS, 1.0)
         self.assertEqual(lvn.run(NONE, NO_ITEMS, NO_ITEMS, 0), (b"", NO_ITEMS, 0, "end", 0))
+
+        class Nine:
+            def __index__(self):
+                return 9
+
+        for limit in (True, 2**64 - 1, Nine()):
+            self.assertEqual(lvn.run(NONE, NO_ITEMS, NO_ITEMS, limit), (b"", NO_ITEMS, 0, "end", 0))
+
+    def test_overlaps(self):
+        """One buffer for both, and parts of one that share a byte, are refused; parts side by side, and none, are not."""
+        both = bytearray([GUARD] * 40)
+        view = memoryview(both)
+        lent = NONE, NO_ITEMS, NO_ITEMS, 9
+        for events, left in ((both, both), (view, both), (view[:21], view[20:]), (view[20:], view[:21]), (view, view[7:12]), (view[7:12], view)):
+            self.assertRaises(ValueError, lvn.run_into, *lent, events, left)
+        self.assertEqual(set(both), {GUARD})
+        for events, left in ((view[:20], view[20:]), (view[20:], view[:20]), (view[7:7], view), (bytearray(), both)):
+            both[:] = bytes([GUARD] * 40)
+            self.assertEqual(lvn.run_into(*lent, events, left), (0, 5, 0, 0, 0))
+            self.assertEqual((left[:5], both.count(GUARD)), (NO_ITEMS, 35))
+        with self.assertRaises(lvn.Short):
+            lvn.run_into(*lent, view[:0], view[:0])
 
 
 class Words(unittest.TestCase):
