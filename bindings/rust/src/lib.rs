@@ -97,7 +97,7 @@ pub struct Ran {
     pub ending: Ending,
 }
 
-/// Why nothing was run.
+/// Why nothing was written by a run.
 #[derive(Clone, Copy, Debug, PartialEq, Eq)]
 pub enum NotRun {
     /// The record is refused.
@@ -319,6 +319,17 @@ pub fn run(
         14 => Err(NotRun::Room { events, store }),
         _ => Err(NotRun::Refused(Refused { number, offset: events })),
     }
+}
+
+/// What a run comes to, with its events and its final store.
+pub fn run_of(record: &[u8], store: &[u8], answers: &[u8], limit: u64) -> Result<(Ran, Vec<u8>, Vec<u8>), NotRun> {
+    // An event has at most 148 bytes, and there is one for each answer, which has a byte or more behind the list's five, and one more.
+    let most = answers.len().saturating_sub(5) + 1;
+    let (mut events, mut left) = (vec![0; 148 * most], vec![0; 4357]); // no final store is longer
+    let ran = run(record, store, answers, limit, &mut events, &mut left)?;
+    events.truncate(ran.events);
+    left.truncate(ran.store);
+    Ok((ran, events, left))
 }
 
 fn ending(answer: &raw::Ran) -> Ending {

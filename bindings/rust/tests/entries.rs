@@ -1,6 +1,6 @@
 //! The entries on the records of document 01, on outputs of each size and on each number of places.
 
-use lvn::{check, figures, figures_of, name_text, rewrite, rewriting, run};
+use lvn::{check, figures, figures_of, name_text, rewrite, rewriting, run, run_of};
 use lvn::{Counted, Ending, NotRun, Ran, Refused, Uncounted, Unwritten, Written};
 
 fn bytes(hex: &str) -> Vec<u8> {
@@ -186,6 +186,47 @@ fn a_call_is_run() {
     assert_eq!(ran, Ok(Ran { events: 34, store: 14, steps: 2, ending: Ending::End }));
     assert_eq!((&events[..34], &events[34..]), (&told[..], &[0xA5; 6][..]));
     assert_eq!((&left[..14], &left[14..]), (&final_store[..], &[0xA5; 6][..]));
+}
+
+/// Events, final store and what a run comes to.
+fn run_is(lent: (&[u8], &[u8], &[u8]), limit: u64, ran: Ran, events: &[u8], left: &[u8]) {
+    let expected = Ok((ran, events.to_vec(), left.to_vec()));
+    assert_eq!(run_of(lent.0, lent.1, lent.2, limit), expected);
+}
+
+#[test]
+fn runs_with_what_they_write() {
+    let (record, store, answers) = call();
+    let told = bytes("00000001 14 0003 01 00 0000000000000005 00000002 44 0000 01 00 0000000000000006");
+    let final_store = bytes("0000000A 01 00 0000000000000006");
+    let lent = (&record[..], &store[..], &answers[..]);
+    run_is(lent, 9, Ran { events: 34, store: 14, steps: 2, ending: Ending::End }, &told, &final_store);
+    run_is(lent, 1, Ran { events: 17, store: 14, steps: 1, ending: Ending::Limit }, &told[..17], &final_store);
+    run_is(lent, 0, Ran { events: 0, store: 14, steps: 0, ending: Ending::Limit }, &[], &store);
+    let none = bytes("00000001 01");
+    run_is((&record, &store, &none), 9, Ran { events: 17, store: 14, steps: 1, ending: Ending::Halt }, &told[..17], &store);
+    assert_eq!(run_of(&record, &store, &none[..4], 9), Err(NotRun::Unfit));
+    assert_eq!(run_of(&record, &store, &[], 9), Err(NotRun::Unfit));
+    assert_eq!(run_of(&record[..9], &store, &answers, 9), Err(NotRun::Refused(Refused { number: 1, offset: 0 })));
+}
+
+/// print p p p p p p p p, in a block that is repeated, with p a pointer: the longest event.
+#[test]
+fn runs_with_the_longest_events() {
+    let record = bytes(
+        "0000002B 01 01 0001 100170 0001 0002 0000
+        00000001 44 08 0000 0000 0000 0000 0000 0000 0000 0000 00000002 40 00 0000",
+    );
+    let store = bytes("00000012 01 10 0000000000000001 0000000000000002");
+    let mut event = bytes("00000001 44 0000 08");
+    event.extend(store[5..].repeat(8));
+    for count in [0, 1, 2, 100] {
+        let mut answers = (count as u32 + 1).to_be_bytes().to_vec();
+        answers.push(1);
+        answers.resize(5 + count, 0xFE);
+        let ran = Ran { events: 144 * (count + 1), store: 22, steps: 2 * count as u64 + 1, ending: Ending::Halt };
+        run_is((&record, &store, &answers), u64::MAX, ran, &event.repeat(count + 1), &store);
+    }
 }
 
 #[test]
