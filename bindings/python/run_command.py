@@ -8,7 +8,7 @@ offset, as ptr<int>:100+8, or without the offset if that is 0; of an int literal
 its own type: 100+8, and 5 for a float that holds the literal 5. Answers may also be go and halt. A name that is not set holds nothing;
 an event for which no answer is left halts the run.
 
-Without --steps N is 2^64-1: a run that never ends is not stopped.
+Without --steps the limit is 2^64-1, so a run that never ends is not stopped.
 
 Ends with 0 if it ran, 1 if it was refused and the line that says so was written, 2 for a bad value or wrong use, 3 if not all could be
 written, 130 if it was interrupted.
@@ -34,7 +34,7 @@ CALLS = 20, 67
 ENDS = "end", "ret", "halt", "unset", "division", "limit"
 PLACE = re.compile(r"([0-9]{1,20})(?:([+-])([0-9]{1,20}))?")
 MOST = 2**64 - 1
-NOTES = {  # of what running/Program sets: how much it reads, and lends for the events
+NOTES = {  # by what running/Program says: how much is read, and how much is lent for the events
     10: "record, store, answers and limit (8 bytes) may have 262,144 bytes together; the library's run takes more",
     14: "1,048,576 bytes are lent for the events; the library's run can be lent more",
 }
@@ -200,14 +200,15 @@ def unfit(record, store, items, limit):
 
 def unfit_text(number, text, item, names):
     said = "refused 13: answer %d, %s, does not fit its instruction" % (number, text)
-    if item[0] == INT and FLOAT in (kind for kind, _ in names):  # not taken for a float: of an answer no name says the type
+    if item[0] == INT and FLOAT in (kind for kind, _ in names):  # as an answer it has to say that it is for a float
         literal_ = signed(int.from_bytes(item[1:], "big"))
         said += "; for a float the int literal is float:%d and the number %d.0" % (literal_, literal_)
     return said
 
 
 def whole(record):
-    """Whether its L is the rest. The program finds the store by L, and could answer neither this record nor the store behind it."""
+    """Whether its L is the rest. The program takes so many bytes for the record and what follows for the store: it would divide another
+    one in the wrong place, and answer to that."""
     return len(record) >= 4 and int.from_bytes(record[:4], "big") == len(record) - 4
 
 
