@@ -22,12 +22,12 @@ pub fn length_test(rest: u64, l: u64) -> Test
     read_fields::need(l == rest, Refusal::Length)
 }
 
-// The one version.
+// One of the two versions.
 #[tactic(auto, unfolding(record::specs::Tests::version_test))]
 pub fn version_test(v: u64) -> Test
     ensures { result ≡ version_test v }
 {
-    read_fields::need(v == 1, Refusal::Version)
+    read_fields::need(v == 1 || v == 2, Refusal::Version)
 }
 
 // At most so many names, and not fewer than arguments.

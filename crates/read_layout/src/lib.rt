@@ -26,10 +26,11 @@ pub struct Layout {
 
 // ---- ids
 // The bytes of an id in a record of this version.
+#[tactic(auto, unfolding(record::specs::Record::id_bytes))]
 pub fn id_bytes(version: u64) -> usize
     ensures { (result ≡ id_bytes version) × (result ≤ widest_id) }
 {
-    4
+    if version == 2 { 8 } else { 4 }
 }
 
 // The bytes of an id in this record.

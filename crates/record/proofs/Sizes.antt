@@ -5,6 +5,7 @@ use mathlib.Core.List.{List, [], ◌∷◌, ◌++◌, map}
 use mathlib.Core.Bool.{Bool, true, false, cond, not}
 use native.Mathlib.Omega.{arith}
 use lib.ListN.{length, length-append}
+use lib.Dec.{eqb}
 use Rattle.record.specs.declared.NameIx.{NameIx}
 use Rattle.record.specs.declared.Shape.{Shape}
 use Rattle.record.specs.Record.{Lit, Instr, Block, Name, Record, id_bytes}
@@ -82,7 +83,11 @@ operands_size sh i =
 -- an id has four bytes or eight
 pub id_bytes_are : (v : ℕ) → (4 ≤ id_bytes v) × (id_bytes v ≤ 8)
 unfolding id_bytes
-id_bytes_are v = (omega arith, omega arith)
+id_bytes_are v = go (eqb v 2)
+  where
+    go : (b : Bool) → (4 ≤ cond b 8 4) × (cond b 8 4 ≤ 8)
+    go true = (omega arith, omega arith)
+    go false = (omega arith, omega arith)
 
 -- w: the bytes of an id
 pub instr_size :

@@ -1,6 +1,7 @@
 -- What a field's number is that passes its test, and the other way round.
 use Prim.Native.Nat.{ℕ, ◌<◌, ◌≤◌}
 use mathlib.Core.Path.{◌≡◌, refl, ap}
+use mathlib.Core.Logic.{◌⊎◌, inl, inr}
 use mathlib.Core.List.{List, [], ◌∷◌}
 use mathlib.Core.Bool.{Bool, true, false, not, ◌&&◌, ◌||◌}
 use lib.Dec.{ltb, leb, eqb}
@@ -9,12 +10,12 @@ use Rattle.arith.proofs.Clash.{clash}
 use Rattle.arith.specs.Value.{scalar}
 use Rattle.record.specs.declared.Shape.{Shape}
 use Rattle.record.specs.declared.Refusal.{Refusal}
-use Rattle.record.specs.declared.Refusal.TheVariants.{Limit, Name, Code, Place}
+use Rattle.record.specs.declared.Refusal.TheVariants.{Version, Limit, Name, Code, Place}
 use Rattle.record.specs.Reader.{Test}
 use Rattle.std.specs.Prelude.{Ok, Err}
 use Rattle.record.specs.Shape.{shape_of}
 use Rattle.record.specs.Text.{same_bytes}
-use Rattle.record.specs.Tests.{need, and_then, at_most, below, names_test, code_test, count_test, literal_test}
+use Rattle.record.specs.Tests.{need, and_then, at_most, below, version_test, names_test, code_test, count_test, literal_test}
 -- the parts of an `and` that holds, and it from them
 pub use Rattle.std.specs.Cmp.{first_so as and_left, second_so as and_right}
 pub use Rattle.std.proofs.lemmas.Bool.{and_from as and_both}
@@ -72,6 +73,17 @@ below_lt n x e = ltb-true x n (need_passes (ltb x n) Name e)
 pub lt_below : (n x : ℕ) → x < n → below n x ≡ Ok tt
 unfolding below
 lt_below n x h = passes_need (ltb x n) Name (lt-ltb x n h)
+
+pub version_is : (v : ℕ) → version_test v ≡ Ok tt → (v ≡ 1) ⊎ (v ≡ 2)
+unfolding version_test
+version_is v e = go (eqb v 1) refl
+  where
+    one_of : (eqb v 1 || eqb v 2) ≡ true
+    one_of = need_passes (eqb v 1 || eqb v 2) Version e
+
+    go : (b : Bool) → eqb v 1 ≡ b → (v ≡ 1) ⊎ (v ≡ 2)
+    go true f = inl (eqb-true v 1 f)
+    go false f = inr (eqb-true v 2 (or_second (eqb v 1) (eqb v 2) one_of f))
 
 -- the number of names is within its limit, and the arguments are among them
 pub names_limit : (most args n : ℕ) → names_test most args n ≡ Ok tt → n ≤ most

@@ -2,25 +2,26 @@
 -- The tests bound every number but those of Ranged, for limits that their fields can hold, and L by what stands behind it.
 use Prim.Native.Nat.{ℕ, zero, suc, ◌*◌, ◌%◌, ◌^◌, ◌<◌, ◌≤◌}
 use mathlib.Core.Path.{◌≡◌, refl}
+use mathlib.Core.Logic.{◌⊎◌, inl, inr}
 use mathlib.Core.List.{List, [], ◌∷◌, ◌++◌, map}
 use mathlib.Core.Bool.{Bool, true, false, not, ◌||◌}
 use native.Mathlib.Omega.{arith}
 use native.Mathlib.Nat.{div-lt_iff_lt-mul, mod-lt, one-le-pow}
 use lib.ListN.{length}
 use lib.Dec.{leb, eqb}
-use borrow.Author.Tests.{leb-true, eqb-true}
+use borrow.Author.Tests.{leb-true}
 use Rattle.record.specs.declared.NameIx.{NameIx}
 use Rattle.record.specs.declared.Shape.{Shape}
 use Rattle.record.specs.declared.Limits.{Limits}
-use Rattle.record.specs.declared.Refusal.TheVariants.{Version, Limit}
+use Rattle.record.specs.declared.Refusal.TheVariants.{Limit}
 use Rattle.std.specs.Prelude.{Ok}
 use Rattle.record.specs.Record.{Bytes, Lit, Instr, Block, Name, Record, most_args, most_blocks, id_bytes}
 use Rattle.record.specs.Shape.{shape_of}
-use Rattle.record.specs.Tests.{below, version_test, text_length_test}
+use Rattle.record.specs.Tests.{below, text_length_test}
 use Rattle.record.specs.Write.{be, join, when, index_bytes, literal_bytes, argument_bytes, operand_bytes, instr_bytes, block_bytes, name_bytes, content_bytes, bytes}
 use Rattle.record.specs.Good.{There, Each, IndexOk, LitOk, ArgsOk, OperandsOk, InstrOk, BlockOk, NameOk, NamesOk, RecordOk}
 use Rattle.record.specs.Ranged.{RangedInstr, RangedBlock, RangedName, Ranged}
-use Rattle.record.proofs.Tests.{and_right, need_passes, at_most_le, below_lt, names_limit, count_most, code_known}
+use Rattle.record.proofs.Tests.{and_right, need_passes, version_is, at_most_le, below_lt, names_limit, count_most, code_known}
 use Rattle.record.proofs.Gives.{each_both}
 use Rattle.record.proofs.Form.{all_below, at_known, known_below}
 
@@ -151,17 +152,21 @@ module _ (lim : Limits) (hold : Holds lim) where
   names_written seen (x ∷ xs) h k =
       join_bytes _ _ (name_written seen x h.0 k.0) (names_written (seen ++ (x.text ∷ [])) xs h.1 k.1)
 
+  version_small : {v : ℕ} → (v ≡ 1) ⊎ (v ≡ 2) → v < 256 ^ 1
+  version_small (inl e) = omega arith
+  version_small (inr e) = omega arith
+
   contents_written : (r : Record Instr) → RecordOk lim r → Ranged r → Bytes (content_bytes r)
-  unfolding content_bytes version_test
+  unfolding content_bytes
   contents_written r h k =
       let w = id_bytes r.version in
       let N = length r.names in
       let B = length r.blocks in
-      let v : r.version ≡ 1 = eqb-true r.version 1 (need_passes (eqb r.version 1) Version h.version) in
+      let v : r.version < 256 ^ 1 = version_small (version_is r.version h.version) in
       let n : N ≤ lim.names = names_limit lim.names r.args N h.size in
       let m : B ≤ most_blocks = at_most_le most_blocks B h.count in
       let small : lim.names < 256 ^ 2 = hold.names in
-      join_bytes _ _ (be_bytes 1 r.version (omega arith))
+      join_bytes _ _ (be_bytes 1 r.version v)
       (join_bytes _ _ (bounded 1 r.args most_args (at_most_le most_args r.args h.args) (omega arith))
       (join_bytes _ _ (bounded 2 N lim.names n small)
       (join_bytes _ _ (names_written [] r.names h.names k.names)

@@ -1,5 +1,5 @@
 -- "Function record": what a record holds. Texts stand beside the function, so that numbering and machine cannot look at them.
-use Rattle.std.specs.Prelude.{ℕ, ◌<◌, List, [], ◌∷◌, map, true, false, get_or, length}
+use Rattle.std.specs.Prelude.{ℕ, ◌<◌, List, [], ◌∷◌, map, true, false, get_or, length, cond, eqb}
 use mathlib.Core.HLevel.{Discrete}
 use Rattle.std.proofs.Math.Decide.{ℕ_discrete}
 use Rattle.arith.specs.Equal.{map_dec}
@@ -101,6 +101,6 @@ limits = record { names = 256; text = 32; body = 256; made = false }
 abbrev pub wide : Limits
 wide = record { names = 16640; text = 42; body = 512; made = true }
 
--- the bytes of an id in a record of this version
+-- the bytes of an id in a record of this version: "id (4)"; "Version 2 of the record has 8-byte ids and is otherwise the same"
 unfoldable pub id_bytes : ℕ → ℕ
-id_bytes version = 4
+id_bytes version = cond (eqb version 2) 8 4

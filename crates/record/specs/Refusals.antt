@@ -39,9 +39,9 @@ behind s rows = map (λ r. (hex s ++ hex r.0, r.1)) rows
 -- fields in order: past the end, and of a value that they cannot have
 abbrev pub front : List Row
 front =
-    -- L right and nothing behind it; version 2; A 17, refused before N is looked for; N with one byte left; A above N, at N
+    -- L right and nothing behind it; version 0 and 3; A 17, refused before N is looked for; N with one byte left; A above N, at N
     behind "" (
-    ("", refused 1 4) ∷ ("02", refused 2 4) ∷ ("01", refused 1 5) ∷ ("01 11", refused 3 5) ∷
+    ("", refused 1 4) ∷ ("00", refused 2 4) ∷ ("03", refused 2 4) ∷ ("01", refused 1 5) ∷ ("01 11", refused 3 5) ∷
     ("01 00 00", refused 1 6) ∷ ("01 00 0101", refused 3 6) ∷ ("01 01 0000", refused 3 6) ∷ []) ++
     -- types, lengths and texts: one past the end, at its first byte; one that is malformed
     (behind "01 00 0001" (

@@ -33,8 +33,9 @@ below n x = need (ltb x n) Name
 unfoldable pub length_test : ℕ → ℕ → Test
 length_test rest l = need (eqb l rest) Length
 
+-- "Refusal 2 is for versions other than 1 and 2"
 unfoldable pub version_test : ℕ → Test
-version_test v = need (eqb v 1) Version
+version_test v = need (eqb v 1 || eqb v 2) Version
 
 -- "a limit, A above N (at N)"
 unfoldable pub names_test : ℕ → ℕ → ℕ → Test

@@ -85,4 +85,8 @@ width_most (inr e) = omega arith
 
 pub id_width : (version : ℕ) → IdWidth (id_bytes version)
 unfolding id_bytes
-id_width version = inl refl
+id_width version = go (eqb version 2)
+  where
+    go : (b : Bool) → IdWidth (cond b 8 4)
+    go true = inr refl
+    go false = inl refl
