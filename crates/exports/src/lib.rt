@@ -11,7 +11,8 @@ ghost use Rattle.numbering.specs.NameText.{name_answer, name_text};
 ghost use Rattle.running.specs.Engine.{engine, engine_events, engine_store, engine_answer};
 ghost use Rattle.exports.specs.Values.{value, values, told_as, run_values, place_values, LiesWithin};
 
-use numbering::{Refuses, Totals};
+use numbering::Totals;
+use record::Refuses;
 
 // Whether the bytes are a record of a function. offset: that of the fault; 0 if there is none.
 #[unsafe(no_mangle)]

@@ -17,7 +17,7 @@ use Rattle.numbering.proofs.Made.{saved_in_length}
 use Rattle.write_bytes.specs.Put.{put, Wrote}
 use Rattle.write_bytes.proofs.Wrote.{Rest, rest_all, rest_less, rest_none}
 use Rattle.read_layout.specs.declared.Layout.{Layout}
-use Rattle.lvn_blocks.specs.declared.Spot.{Spot}
+use Rattle.read_layout.specs.declared.Spot.{Spot}
 use Rattle.lvn_blocks.specs.declared.SaveCount.{SaveCount}
 use Rattle.lvn_blocks.specs.Block.{indexes}
 use Rattle.lvn_blocks.specs.Blocks.{BlocksAsk, block_as, BlockDone, numbered_in, BlocksDone}

@@ -26,7 +26,7 @@ use Rattle.write_bytes.proofs.Wrote.{wrote_before, wrote_last}
 use Rattle.lvn_state.specs.Room.{room}
 use Rattle.lvn_state.proofs.Room.{start_room}
 use Rattle.read_layout.specs.declared.Layout.{Layout}
-use Rattle.lvn_blocks.specs.declared.Spot.{Spot}
+use Rattle.read_layout.specs.declared.Spot.{Spot}
 use Rattle.lvn_blocks.specs.declared.SaveCount.{SaveCount}
 use Rattle.lvn_blocks.specs.Block.{body_bytes, indexes, Asks, Done}
 use Rattle.lvn_blocks.specs.Blocks.{BlocksAsk, block_as, BlockDone, numbered_in}

@@ -26,7 +26,7 @@ use Rattle.lvn_state.proofs.Room.{Grows, instr_grows}
 use Rattle.lvn_instr.specs.declared.Emitted.{Emitted}
 use Rattle.lvn_instr.specs.View.{emitted_of}
 use Rattle.read_layout.specs.declared.Layout.{Layout}
-use Rattle.lvn_blocks.specs.declared.Spot.{Spot}
+use Rattle.read_layout.specs.declared.Spot.{Spot}
 use Rattle.lvn_blocks.specs.Block.{body_bytes, saved_by, indexes, lines}
 use Rattle.lvn_blocks.specs.Block.{Asks, Turned, body_of, temps_of, Done}
 use Rattle.lvn_blocks.proofs.Accepted.{reads_low}

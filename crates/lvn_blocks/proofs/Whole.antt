@@ -12,7 +12,7 @@ use Rattle.numbering.specs.Number.{blocks_lvn, made_from, lvn}
 use Rattle.numbering.specs.Made.{made}
 use Rattle.numbering.specs.Figures.{instructions}
 use Rattle.write_bytes.specs.Put.{put, Wrote}
-use Rattle.lvn_blocks.specs.declared.Spot.{Spot}
+use Rattle.read_layout.specs.declared.Spot.{Spot}
 use Rattle.lvn_blocks.specs.declared.Behind.{Behind}
 use Rattle.lvn_blocks.specs.Block.{indexes}
 use Rattle.lvn_blocks.specs.Blocks.{BlocksDone}

@@ -11,7 +11,7 @@ use Rattle.numbering.specs.Number.{Emitted, instr_lvn, block_lvn, saved_in}
 use Rattle.write_bytes.specs.Put.{Wrote, IdWidth}
 use Rattle.lvn_state.specs.Room.{room, Maps}
 use Rattle.read_layout.specs.declared.Layout.{Layout}
-use Rattle.lvn_blocks.specs.declared.Spot.{Spot}
+use Rattle.read_layout.specs.declared.Spot.{Spot}
 
 -- ---- writing
 unfoldable pub body_bytes : ℕ → List Instr → List ℕ

@@ -11,7 +11,7 @@ use Rattle.numbering.specs.Number.{Numbered, block_lvn, blocks_lvn, count_saves,
 use Rattle.numbering.specs.Figures.{instructions}
 use Rattle.write_bytes.specs.Put.{Wrote, IdWidth}
 use Rattle.read_layout.specs.declared.Layout.{Layout}
-use Rattle.lvn_blocks.specs.declared.Spot.{Spot}
+use Rattle.read_layout.specs.declared.Spot.{Spot}
 use Rattle.lvn_blocks.specs.declared.SaveCount.{SaveCount}
 use Rattle.lvn_blocks.specs.declared.Behind.{Behind}
 use Rattle.lvn_blocks.specs.Block.{indexes}

@@ -18,7 +18,7 @@ use arith::One;
 use lvn_instr::Emitted;
 use lvn_state::LvnState;
 use lvn_values::NUMBERS;
-use read_layout::Layout;
+use read_layout::{Layout, Spot};
 use record::{Instruction, NAMES, NameIx};
 
 // An accepted record: its bytes, what its head says, and the types of its names.
@@ -31,13 +31,6 @@ pub struct Source<'a> {
 
 // The state of a block of any record.
 pub type BlockState = LvnState<NAMES, NUMBERS>;
-
-// A place in the input, and the place in the output.
-#[derive(Clone, Copy, PartialEq, Eq, Debug)]
-pub struct Spot {
-    pub p: usize,
-    pub q: usize,
-}
 
 // ---- one instruction
 

@@ -2,7 +2,6 @@
 #![tactic(auto)]
 
 ghost use Rattle.std.specs.Prelude.{◌≡◌, [], ◌∷◌, Err};
-ghost use Rattle.record.specs.Answer.{Returned};
 ghost use Rattle.numbering.specs.declared.RewriteError.TheVariants.{Refused as rewrite_refused};
 ghost use Rattle.numbering.specs.declared.FiguresError.TheVariants.{Refused as figures_refused};
 ghost use Rattle.numbering.specs.declared.NameError.TheVariants.{Refused as name_refused};
@@ -11,7 +10,7 @@ ghost use Rattle.numbering.specs.Figures.{figures_answer};
 ghost use Rattle.numbering.specs.NameText.{name_answer};
 
 use arith::{One, Two};
-use record::Fault;
+use record::{Fault, Refuses};
 
 // A value number. Name indexes are another kind, NameIx of the crate record.
 #[derive(Clone, Copy, PartialEq, Eq, PartialOrd, Ord, Debug)]
@@ -39,20 +38,6 @@ pub enum Value {
 pub struct Totals {
     pub bytes: usize,
     pub saves: usize,
-}
-
-// Why an entry does nothing, in numbers. A run's refusal is no such: 14 goes with two values.
-pub trait Refuses: Copy {
-    // The answer: the number of the refusal, and the value that goes with it.
-    ghost answer: { Self → Returned };
-
-    // Its number.
-    fn number(self) -> u8
-        ensures { result ≡ (answer self).number };
-
-    // The value that goes with it: the offset of the fault, or the bytes needed, or 0.
-    fn value(self) -> usize
-        ensures { (answer self).values ≡ result ∷ [] };
 }
 
 // Why rewrite writes nothing: a refusal of check; or the output is too small for so many bytes.

@@ -24,6 +24,13 @@ pub struct Layout {
     pub blocks: usize,
 }
 
+// A place in the input, and the place in the output.
+#[derive(Clone, Copy, PartialEq, Eq, Debug)]
+pub struct Spot {
+    pub p: usize,
+    pub q: usize,
+}
+
 // ---- ids
 // The bytes of an id in a record of this version.
 #[tactic(auto, unfolding(record::specs::Record::id_bytes))]

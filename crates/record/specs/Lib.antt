@@ -27,3 +27,4 @@ pub mod Ranged
 pub mod Decode
 pub mod Sizes
 pub mod Again
+pub mod Versions

@@ -1,8 +1,10 @@
 // The types that the definitions of a function record and the code share.
 #![tactic(auto)]
 
-ghost use Rattle.std.specs.Prelude.{◌≡◌, ◌≤◌, length, take};
-ghost use Rattle.record.specs.Answer.{number};
+ghost use Rattle.std.specs.Prelude.{◌≡◌, ◌≤◌, [], ◌∷◌, Err, length, take};
+ghost use Rattle.record.specs.declared.ConvertError.TheVariants.{Refused};
+ghost use Rattle.record.specs.Answer.{Returned, number};
+ghost use Rattle.record.specs.Versions.{convert_answer};
 
 use arith::{One, Two};
 
@@ -166,4 +168,57 @@ pub const OWN_REFUSAL: u8 = 10;
 pub struct Fault {
     pub refusal: Refusal,
     pub offset: usize,
+}
+
+// Why an entry does nothing, in numbers. A run's refusal is no such: 14 goes with two values.
+pub trait Refuses: Copy {
+    // The answer: the number of the refusal, and the value that goes with it.
+    ghost answer: { Self → Returned };
+
+    // Its number.
+    fn number(self) -> u8
+        ensures { result ≡ (answer self).number };
+
+    // The value that goes with it: the offset of the fault, or the bytes needed, or 0.
+    fn value(self) -> usize
+        ensures { (answer self).values ≡ result ∷ [] };
+}
+
+// Why widening or narrowing writes nothing: a refusal of check; an instruction, at this place, whose id has no room in the version that is wanted;
+// or the output is too small for so many bytes.
+#[derive(Clone, Copy, PartialEq, Eq, Debug)]
+pub enum ConvertError {
+    Refused(Fault),
+    Wide(usize),
+    Room(usize),
+}
+
+impl Refuses for ConvertError {
+    ghost answer = { λ e. convert_answer (Err e) };
+
+    #[tactic(auto, unfolding(crate::specs::Versions::convert_answer))]
+    fn number(self) -> u8 {
+        match self {
+            ConvertError::Refused(f) => u8::from(f.refusal),
+            ConvertError::Wide(_) => 15,
+            ConvertError::Room(_) => 9,
+        }
+    }
+
+    #[tactic(auto, unfolding(crate::specs::Versions::convert_answer))]
+    fn value(self) -> usize {
+        match self {
+            ConvertError::Refused(f) => f.offset,
+            ConvertError::Wide(at) => at,
+            ConvertError::Room(n) => n,
+        }
+    }
+}
+
+impl From<Fault> for ConvertError {
+    ghost from_gives = { λ f e. e ≡ Refused f };
+
+    fn from(f: Fault) -> ConvertError {
+        ConvertError::Refused(f)
+    }
 }

@@ -6,7 +6,8 @@
 
 ghost use Rattle.std.specs.Prelude.{◌≤◌, length};
 
-use numbering::{FiguresError, Refuses, Totals};
+use numbering::{FiguresError, Totals};
+use record::Refuses;
 use replay_lines::{Cursor, Expected};
 use std::io;
 

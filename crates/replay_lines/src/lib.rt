@@ -8,7 +8,7 @@ ghost use Rattle.replay_lines.specs.Counts.{counts_line};
 ghost use Rattle.replay_lines.specs.Decimal.{decimal, behind_digits};
 ghost use Rattle.replay_lines.specs.Filled.{holds_before_fill};
 
-use numbering::Refuses;
+use record::Refuses;
 use std::io::{Read, Write};
 use std::{fmt, io};
 

@@ -4,7 +4,8 @@
 // as: the number fits, or u64 and usize have no From; try_from would give an error that cannot happen.
 #![tactic(auto)]
 
-use numbering::{Refuses, RewriteError, Totals};
+use numbering::{RewriteError, Totals};
+use record::Refuses;
 use replay_lines::{Cursor, Expected};
 use std::io;
 

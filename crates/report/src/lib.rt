@@ -6,8 +6,7 @@ ghost use Rattle.std.specs.Prelude.{◌≡◌, [], ◌∷◌, ◌≤◌, length,
 ghost use Rattle.numbering.specs.Program.{refused_line, program_output};
 ghost use Rattle.write_bytes.specs.Put.{Wrote};
 
-use numbering::Refuses;
-use record::OWN_REFUSAL;
+use record::{OWN_REFUSAL, Refuses};
 
 // The bytes of the longest input that the program takes: `most_input` of numbering/specs/Program.
 pub const MOST_INPUT: usize = 8192;

@@ -17,8 +17,9 @@ ghost use Rattle.write_bytes.specs.Put.{put, Wrote};
 ghost use Rattle.lvn_blocks.specs.Block.{indexes};
 ghost use Rattle.rewrite.specs.Parts.{rewriting_in, figures_in, front_parts, blocks_bytes, Lent, Ready, Front, Typed, Noted, Answered, longest_front, longest_blocks, longest_rewriting, most_saves};
 
-use lvn_blocks::{Behind, BlockState, Source, Spot};
+use lvn_blocks::{Behind, BlockState, Source};
 use numbering::{RewriteError, Totals};
+use read_layout::Spot;
 use record::{BLOCKS, NAMES};
 use write_names::Names;
 
