@@ -5,18 +5,19 @@
  * Records, refusals and limits are those of docs/REFERENCE.md. Each function returns 0, or the number of its refusal:
  *
  *     1  fewer than four bytes, L not the rest, a field past the end, or bytes left over
- *     2  version
+ *     2  version: neither 1 nor 2
  *     3  a limit, a count, a type, saves that are not zero, a literal's kind or a literal that is not of its kind
  *     4  a name's text is malformed, reserved or used before
  *     5  unknown code: 15 to 19, 40 to 63, 72 and on
  *     6  a name or block number that is not in the record
  *     7  an instruction's types
  *     8  jmp, br or ret before the last place of its block
- *     9  rewrite: the output is too short
+ *     9  rewrite, widening, narrowing: the output is too short
  *    11  name text: the rewriting does not belong to the input
  *    12  figures: fewer places than blocks
  *    13  run: store or answers do not read, a stored value is not of its name's type, or an answer that was taken does not fit
  *    14  run: too few bytes were lent for the events or for the final store
+ *    15  narrowing: an instruction's id is 2^32 or more
  *
  * Every input is answered: nothing is asked of the bytes. Of the pointers it is asked that each points to as many bytes, or numbers, as
  * its length or type says, that none is null (not even with length 0), and that nothing which a call writes overlaps with anything else
@@ -95,6 +96,17 @@ typedef struct {
 uint8_t lvn_run(const uint8_t *record, size_t record_length, const uint8_t *store, size_t store_length, const uint8_t *answers,
                 size_t answers_length, uint64_t limit, uint8_t *events, size_t events_length, uint8_t *final_store, size_t final_length,
                 lvn_ran *answer);
+
+/* Writes the record in version 2, whose ids have eight bytes, to the start of output: 0, a refusal of lvn_check, or 9.
+ * answer: 0: the bytes written. 1 to 8: the offset of the first fault. 9: the bytes needed.
+ * A record of version 2 comes out unchanged. A refusal leaves output as it was, and success leaves the bytes beyond the record as they were. Twice as
+ * many bytes of output as of input are always enough. */
+uint8_t lvn_widen(const uint8_t *input, size_t input_length, uint8_t *output, size_t output_length, size_t *answer);
+
+/* Writes the record in version 1, whose ids have four bytes: as lvn_widen does, or 15 before 9.
+ * answer: 15: the offset of the first instruction whose id is 2^32 or more.
+ * A record of version 1 comes out unchanged. As many bytes of output as of input are always enough. */
+uint8_t lvn_narrow(const uint8_t *input, size_t input_length, uint8_t *output, size_t output_length, size_t *answer);
 
 #ifdef __cplusplus
 }

@@ -1,10 +1,11 @@
-// The library for other languages: check, rewrite, figures, name text and running, called as C functions. Each returns 0, or the number of
+// The library for other languages: check, rewrite, figures, name text, running, widening and narrowing, called as C functions. Each returns 0, or the number of
 // its refusal, and leaves the values that go with it in a lent place; include/lvn.h says the same for C. A slice is a pointer and a length
 // there. C has no Result, so the number and the values stand apart.
 #![tactic(auto)]
 
 ghost use Rattle.std.specs.Prelude.{◌≡◌};
 ghost use Rattle.record.specs.Answer.{check_answer, checked};
+ghost use Rattle.record.specs.Versions.{convert_answer, widen, widen_leaves, narrow, narrow_leaves};
 ghost use Rattle.numbering.specs.Rewrite.{rewrite_answer, rewrite, rewrite_leaves};
 ghost use Rattle.numbering.specs.Figures.{figures_answer, figures, figures_leaves};
 ghost use Rattle.numbering.specs.NameText.{name_answer, name_text};
@@ -12,7 +13,7 @@ ghost use Rattle.running.specs.Engine.{engine, engine_events, engine_store, engi
 ghost use Rattle.exports.specs.Values.{value, values, told_as, run_values, place_values, LiesWithin};
 
 use numbering::Totals;
-use record::Refuses;
+use record::{ConvertError, Refuses};
 
 // Whether the bytes are a record of a function. offset: that of the fault; 0 if there is none.
 #[unsafe(no_mangle)]
@@ -124,4 +125,43 @@ pub extern "C" fn lvn_run(
     let values = n.values;
     *answer = values;
     n.number
+}
+
+// The number that widening and narrowing return, and what they leave: the bytes written, or the value of a refusal.
+#[tactic(auto, unfolding(record::specs::Versions::convert_answer))]
+fn converted(a: Result<usize, ConvertError>, answer: &mut usize) -> u8
+    ensures { (result ≡ (convert_answer a).number) × (answer.new ≡ value (convert_answer a) 0) }
+{
+    match a {
+        Ok(n) => {
+            *answer = n;
+            0
+        }
+        Err(e) => {
+            *answer = e.value();
+            e.number()
+        }
+    }
+}
+
+// The record in version 2, with ids of eight bytes, written whole or not at all. answer: the bytes written; or the offset of the fault, or the bytes
+// needed.
+#[unsafe(no_mangle)]
+pub extern "C" fn lvn_widen(input: &[u8], output: &mut [u8], answer: &mut usize) -> u8
+    ensures { (result ≡ (convert_answer (widen input.now output.old)).number) ×
+        ((answer.new ≡ value (convert_answer (widen input.now output.old)) 0) ×
+        (output.new ≡ widen_leaves input.now output.old)) }
+{
+    converted(convert::widen(input, output), answer)
+}
+
+// The record in version 1, with ids of four bytes, written whole or not at all. answer: the bytes written; or the offset of the fault, or of the
+// first instruction whose id is too wide; or the bytes needed.
+#[unsafe(no_mangle)]
+pub extern "C" fn lvn_narrow(input: &[u8], output: &mut [u8], answer: &mut usize) -> u8
+    ensures { (result ≡ (convert_answer (narrow input.now output.old)).number) ×
+        ((answer.new ≡ value (convert_answer (narrow input.now output.old)) 0) ×
+        (output.new ≡ narrow_leaves input.now output.old)) }
+{
+    converted(convert::narrow(input, output), answer)
 }

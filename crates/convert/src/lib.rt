@@ -1,0 +1,155 @@
+// Widening and narrowing: an accepted record written in the version that is wanted. Each id is read in the one width and written in the other;
+// all else is copied as it stands. Before the first byte is written, every id has been read, and the room is known to be enough.
+#![tactic(auto)]
+
+ghost use Rattle.std.specs.Prelude.{Ok, ◌≡◌, ◌+◌, ◌*◌, ◌^◌, ◌<◌, ◌≤◌, length, ltb};
+ghost use Rattle.record.specs.Record.{Bytes};
+ghost use Rattle.record.specs.Reader.{num_at};
+ghost use Rattle.record.specs.Write.{instr_bytes, block_bytes, bytes};
+ghost use Rattle.record.specs.Answer.{checked};
+ghost use Rattle.record.specs.Decode.{behind, instr_from, instr_end, block_end};
+ghost use Rattle.record.specs.Versions.{convert, convert_leaves, widen, widen_leaves, narrow, narrow_leaves};
+ghost use Rattle.read_fields.specs.Places.{places};
+ghost use Rattle.write_bytes.specs.Put.{put, Wrote, IdWidth};
+ghost use Rattle.convert.specs.Parts.{Near, BodyStands, BlocksStand, body_bytes, blocks_bytes, body_found, blocks_found, Stands};
+
+use read_layout::{Layout, Spot};
+use record::ConvertError;
+
+// The versions: that of ids of four bytes, and that of ids of eight.
+const NARROW: u8 = 1;
+
+const WIDE: u8 = 2;
+
+// An accepted record, and how many bytes an id has in it and is to have.
+#[derive(Clone, Copy, PartialEq, Eq, Debug)]
+struct Source<'a> {
+    reads: &'a [u8],
+    from: usize,
+    to: usize,
+    ghost widths: { IdWidth from × IdWidth to },
+}
+
+impl Source<'_> {
+    // ---- the ids, before anything is written
+    // Whether the id of the instruction at a place has room.
+    fn fits(self, at: usize) -> bool
+        requires { at + 7 < places }
+        ensures { result ≡ ltb (num_at self.reads.now at self.from) (256 ^ self.to) }
+    {
+        self.to == 8 || read_instrs::read_id(self.reads, at, self.from) < 1 << 32
+    }
+
+    // Of n instructions from a place on, the place of the first whose id has no room; else the place behind them.
+    fn scan_body(self, at: usize, n: usize) -> Result<usize, usize>
+    {
+        let mut p = at;
+        for _ in 0..n {
+            if !self.fits(p) {
+                return Err(p);
+            }
+            p = read_layout::instr_end(self.reads, self.from, p);
+        }
+        Ok(p)
+    }
+
+    // Of n blocks from a place on, the place of the first instruction whose id has no room; else how many instructions they have.
+    fn scan_blocks(self, at: usize, n: usize) -> Result<usize, usize>
+    {
+        let mut p = at;
+        let mut count = 0;
+        for _ in 0..n {
+            let (size, first) = read_layout::block_head(self.reads, p);
+            p = self.scan_body(first, size)?;
+            count += size;
+        }
+        Ok(count)
+    }
+
+    // ---- what is written
+    // The instruction at a place; the places behind it.
+    fn put_instr(self, out: &mut [u8], at: Spot) -> Spot
+    {
+        let id = read_instrs::read_id(self.reads, at.p, self.from);
+        let end = read_layout::instr_end(self.reads, self.from, at.p);
+        let behind = at.p + self.from;
+        write_bytes::put_word(out, at.q, self.to, id);
+        Spot {
+            p: end,
+            q: write_bytes::copy_bytes(self.reads, behind, end - behind, out, at.q + self.to),
+        }
+    }
+
+    // The block at a place: its head, and its instructions; the places behind it.
+    fn put_block(self, out: &mut [u8], at: Spot) -> Spot
+    {
+        let (n, first) = read_layout::block_head(self.reads, at.p);
+        let mut to = Spot {
+            p: first,
+            q: write_bytes::copy_bytes(self.reads, at.p, 4, out, at.q),
+        };
+        for _ in 0..n {
+            to = self.put_instr(out, to);
+        }
+        to
+    }
+
+    // n blocks from a place on; the place behind what is written.
+    fn put_blocks(self, out: &mut [u8], at: Spot, n: usize) -> usize
+    {
+        let mut to = at;
+        for _ in 0..n {
+            to = self.put_block(out, to);
+        }
+        to.q
+    }
+
+    // The record in the version that is wanted, which has so many bytes: L, the version, all up to the blocks as it stands, and the blocks.
+    fn put_record(self, out: &mut [u8], layout: Layout, version: u8, size: u32)
+    {
+        write_bytes::put_u32(out, 0, size - 4);
+        write_bytes::put_u8(out, 4, version);
+        let p = layout.end + 2;
+        let q = write_bytes::copy_bytes(self.reads, 5, p - 5, out, 5);
+        self.put_blocks(out, Spot { p, q }, layout.blocks);
+    }
+}
+
+// Of an accepted record.
+fn convert_accepted(s: &[u8], out: &mut [u8], version: u8) -> Result<usize, ConvertError>
+    requires { checked s.now ≡ Ok tt }
+    ensures { (result ≡ convert version s.now out.old) × (out.new ≡ convert_leaves version s.now out.old) }
+{
+    let layout = read_layout::layout_of(s, &mut [], &mut []);
+    let source = Source {
+        reads: s,
+        from: layout.width,
+        to: read_layout::id_bytes(u64::from(version)),
+    };
+    let n = source
+        .scan_blocks(layout.end + 2, layout.blocks)
+        .map_err(ConvertError::Wide)?;
+    let size = s.len() - n * source.from + n * source.to;
+    if out.len() < size {
+        return Err(ConvertError::Room(size));
+    }
+    source.put_record(out, layout, version, size as u32);
+    Ok(size)
+}
+
+// The record with ids of eight bytes, written whole or not at all: how many bytes are written; or check's refusal, or the bytes that the output is too
+// short for.
+pub fn widen(input: &[u8], output: &mut [u8]) -> Result<usize, ConvertError>
+    ensures { (result ≡ widen input.now output.old) × (output.new ≡ widen_leaves input.now output.old) }
+{
+    checker::check(input)?;
+    convert_accepted(input, output, WIDE)
+}
+
+// The record with ids of four bytes, or, besides, the place of the first instruction whose id has no room there.
+pub fn narrow(input: &[u8], output: &mut [u8]) -> Result<usize, ConvertError>
+    ensures { (result ≡ narrow input.now output.old) × (output.new ≡ narrow_leaves input.now output.old) }
+{
+    checker::check(input)?;
+    convert_accepted(input, output, NARROW)
+}
