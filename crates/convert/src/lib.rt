@@ -2,16 +2,19 @@
 // all else is copied as it stands. Before the first byte is written, every id has been read, and the room is known to be enough.
 #![tactic(auto)]
 
-ghost use Rattle.std.specs.Prelude.{Ok, ◌≡◌, ◌+◌, ◌*◌, ◌^◌, ◌<◌, ◌≤◌, length, ltb};
-ghost use Rattle.record.specs.Record.{Bytes};
+ghost use Rattle.std.specs.Prelude.{Ok, Err, ◌≡◌, ◌+◌, ◌*◌, ◌^◌, ◌<◌, ◌≤◌, length, ltb};
 ghost use Rattle.record.specs.Reader.{num_at};
 ghost use Rattle.record.specs.Write.{instr_bytes, block_bytes, bytes};
 ghost use Rattle.record.specs.Answer.{checked};
+ghost use Rattle.record.specs.Good.{Each};
 ghost use Rattle.record.specs.Decode.{behind, instr_from, instr_end, block_end};
-ghost use Rattle.record.specs.Versions.{convert, convert_leaves, widen, widen_leaves, narrow, narrow_leaves};
+ghost use Rattle.record.specs.Again.{instrs_from, instrs_end, block_in, blocks_in, blocks_behind, record_in};
+ghost use Rattle.record.specs.Sizes.{places_end};
+ghost use Rattle.record.specs.Versions.{in_version, first_wide, convert, convert_leaves, widen, widen_leaves, narrow, narrow_leaves};
 ghost use Rattle.read_fields.specs.Places.{places};
+ghost use Rattle.read_layout.specs.Layout.{layout_of};
 ghost use Rattle.write_bytes.specs.Put.{put, Wrote, IdWidth};
-ghost use Rattle.convert.specs.Parts.{Near, BodyStands, BlocksStand, body_bytes, blocks_bytes, body_found, blocks_found, Stands};
+ghost use Rattle.convert.specs.Parts.{body_placed, blocks_placed, scanned, IdFits, IdsFit, row_bytes, Stands, Put, Whole};
 
 use read_layout::{Layout, Spot};
 use record::ConvertError;
@@ -42,6 +45,8 @@ impl Source<'_> {
 
     // Of n instructions from a place on, the place of the first whose id has no room; else the place behind them.
     fn scan_body(self, at: usize, n: usize) -> Result<usize, usize>
+        requires { behind (instr_end self.from self.reads.now) at n < places_end }
+        ensures { result ≡ scanned (first_wide self.to (body_placed self.from self.reads.now at n)) (behind (instr_end self.from self.reads.now) at n) }
     {
         let mut p = at;
         for _ in 0..n {
@@ -55,6 +60,8 @@ impl Source<'_> {
 
     // Of n blocks from a place on, the place of the first instruction whose id has no room; else how many instructions they have.
     fn scan_blocks(self, at: usize, n: usize) -> Result<usize, usize>
+        requires { (behind (block_end self.from self.reads.now) at n < places_end) × (n < 65536) }
+        ensures { result ≡ scanned (first_wide self.to (blocks_placed self.from self.reads.now at n)) (length (blocks_placed self.from self.reads.now at n)) }
     {
         let mut p = at;
         let mut count = 0;
@@ -69,43 +76,63 @@ impl Source<'_> {
     // ---- what is written
     // The instruction at a place; the places behind it.
     fn put_instr(self, out: &mut [u8], at: Spot) -> Spot
+        requires { Stands instr_bytes (IdFits self.to) self.from self.to self.reads.now at (instr_from self.from self.reads.now at.p)
+            (instr_end self.from self.reads.now at.p) }
+        ensures { Put instr_bytes self.to out.old out.new at result (instr_from self.from self.reads.now at.p)
+            (instr_end self.from self.reads.now at.p) }
     {
         let id = read_instrs::read_id(self.reads, at.p, self.from);
         let end = read_layout::instr_end(self.reads, self.from, at.p);
         let behind = at.p + self.from;
         write_bytes::put_word(out, at.q, self.to, id);
-        Spot {
-            p: end,
-            q: write_bytes::copy_bytes(self.reads, behind, end - behind, out, at.q + self.to),
-        }
+        let q = write_bytes::copy_bytes(self.reads, behind, end - behind, out, at.q + self.to);
+        Spot { p: end, q }
     }
 
-    // The block at a place: its head, and its instructions; the places behind it.
-    fn put_block(self, out: &mut [u8], at: Spot) -> Spot
+    // n instructions from a place on; the places behind them.
+    fn put_body(self, out: &mut [u8], at: Spot, n: usize) -> Spot
+        requires { Stands (row_bytes instr_bytes) (Each (λ left i. IdFits self.to i)) self.from self.to self.reads.now at
+            (instrs_from self.from self.reads.now at.p n) (instrs_end self.from self.reads.now at.p n) }
+        ensures { Put (row_bytes instr_bytes) self.to out.old out.new at result (instrs_from self.from self.reads.now at.p n)
+            (instrs_end self.from self.reads.now at.p n) }
     {
-        let (n, first) = read_layout::block_head(self.reads, at.p);
-        let mut to = Spot {
-            p: first,
-            q: write_bytes::copy_bytes(self.reads, at.p, 4, out, at.q),
-        };
+        let mut to = at;
         for _ in 0..n {
             to = self.put_instr(out, to);
         }
         to
     }
 
-    // n blocks from a place on; the place behind what is written.
-    fn put_blocks(self, out: &mut [u8], at: Spot, n: usize) -> usize
+    // The block at a place: its head as it stands, and its instructions; the places behind it.
+    fn put_block(self, out: &mut [u8], at: Spot) -> Spot
+        requires { Stands block_bytes (IdsFit self.to) self.from self.to self.reads.now at (block_in self.from self.reads.now at.p)
+            (block_end self.from self.reads.now at.p) }
+        ensures { Put block_bytes self.to out.old out.new at result (block_in self.from self.reads.now at.p)
+            (block_end self.from self.reads.now at.p) }
+    {
+        let (n, p) = read_layout::block_head(self.reads, at.p);
+        let q = write_bytes::copy_bytes(self.reads, at.p, 4, out, at.q);
+        self.put_body(out, Spot { p, q }, n)
+    }
+
+    // n blocks from a place on; the places behind them.
+    fn put_blocks(self, out: &mut [u8], at: Spot, n: usize) -> Spot
+        requires { Stands (row_bytes block_bytes) (Each (λ left b. IdsFit self.to b)) self.from self.to self.reads.now at
+            (blocks_in self.from self.reads.now at.p n) (blocks_behind self.from self.reads.now at.p n) }
+        ensures { Put (row_bytes block_bytes) self.to out.old out.new at result (blocks_in self.from self.reads.now at.p n)
+            (blocks_behind self.from self.reads.now at.p n) }
     {
         let mut to = at;
         for _ in 0..n {
             to = self.put_block(out, to);
         }
-        to.q
+        to
     }
 
     // The record in the version that is wanted, which has so many bytes: L, the version, all up to the blocks as it stands, and the blocks.
     fn put_record(self, out: &mut [u8], layout: Layout, version: u8, size: u32)
+        requires { Whole self.from self.to version self.reads.now size × (layout ≡ layout_of self.reads.now) }
+        ensures { out.new ≡ put out.old 0 (bytes (in_version version (record_in self.reads.now))) }
     {
         write_bytes::put_u32(out, 0, size - 4);
         write_bytes::put_u8(out, 4, version);

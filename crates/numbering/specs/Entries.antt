@@ -7,18 +7,18 @@ use Rattle.numbering.specs.Program.{output_with}
 use Rattle.numbering.specs.Rewrite.{rewrite_answer, rewrite, rewrite_leaves}
 use Rattle.numbering.specs.Opened.{all_of_numbering}
 
--- the smallest record, and a record of version 2, which check refuses
+-- the smallest record, and a record of version 3, which check refuses
 abbrev pub smallest : List ℕ
 smallest = hex "00000006 01 00 0000 0000"
 
-abbrev pub version_2 : List ℕ
-version_2 = hex "00000006 02 00 0000 0000"
+abbrev pub version_3 : List ℕ
+version_3 = hex "00000006 03 00 0000 0000"
 
 -- what rewrite returns: into outputs of 12, 10 and 9 bytes; a refusal of check comes before 9; bytes and saves of the loop
 pub answers :
     map rewrite_answer
     (map (λ n. rewrite smallest (replicate n 0xEE)) (12 ∷ 10 ∷ 9 ∷ []) ++
-    (rewrite version_2 [] ∷ rewrite loop (replicate 200 0) ∷ [])) ≡
+    (rewrite version_3 [] ∷ rewrite loop (replicate 200 0) ∷ [])) ≡
     record { number = 0; values = 10 ∷ 0 ∷ [] } ∷
     record { number = 0; values = 10 ∷ 0 ∷ [] } ∷
     record { number = 9; values = 10 ∷ [] } ∷
@@ -34,8 +34,8 @@ prints s = output_with (replicate 180 0xEE) s
 -- what rewrite leaves in these outputs, and what the program writes
 pub leaves :
     map (λ n. rewrite_leaves smallest (replicate n 0xEE)) (12 ∷ 10 ∷ 9 ∷ []) ++
-    (rewrite_leaves version_2 (hex "EE EE EE") ∷
-    map prints ([] ∷ version_2 ∷ replicate 8193 0 ∷ replicate 8192 0 ∷ [])) ≡
+    (rewrite_leaves version_3 (hex "EE EE EE") ∷
+    map prints ([] ∷ version_3 ∷ replicate 8193 0 ∷ replicate 8192 0 ∷ [])) ≡
     hex "00000006 01 00 0000 0000 EE EE" ∷
     hex "00000006 01 00 0000 0000" ∷
     hex "EE EE EE EE EE EE EE EE EE" ∷

@@ -5,7 +5,7 @@ use Rattle.record.specs.Hex.{hex}
 use Rattle.record.specs.Samples.{loop, walk}
 use Rattle.numbering.specs.Figures.{figures_answer, figures, figures_leaves}
 use Rattle.numbering.specs.Examples.{inputs, further_inputs}
-use Rattle.numbering.specs.Entries.{smallest, version_2}
+use Rattle.numbering.specs.Entries.{smallest, version_3}
 use Rattle.numbering.specs.Opened.{all_of_numbering}
 
 -- the answer, and what the places hold then
@@ -62,7 +62,7 @@ pub places_lent :
     given 0 smallest ∷ map (λ n. given n loop) (0 ∷ 1 ∷ 2 ∷ 3 ∷ []) ++
     (map (λ n. given n walk) (3 ∷ 4 ∷ []) ++
     -- refusals of check
-    (given 0 version_2 ∷ map (λ n. given n bool_in_int) (0 ∷ 1 ∷ 2 ∷ []))) ≡
+    (given 0 version_3 ∷ map (λ n. given n bool_in_int) (0 ∷ 1 ∷ 2 ∷ []))) ≡
     counted 10 0 [] 0 ∷
     refused 12 0 0 ∷
     refused 12 0 1 ∷

@@ -57,7 +57,7 @@ pub operands_on : (sh : Shape) (s : List ℕ) (at : ℕ) → at ≤ operands_end
 operands_on sh s at = omega (arith, operands_past sh s at 0 0)
 
 module _ (w : ℕ) (s : List ℕ) where
-  instr_past : (at : ℕ) → instr_end w s at ≡ at + length (instr_bytes w (instr_from w s at))
+  pub instr_past : (at : ℕ) → instr_end w s at ≡ at + length (instr_bytes w (instr_from w s at))
   unfolding instr_end instr_from operands_from
   instr_past at =
       let c = num_at s (at + w) 1 in
@@ -83,7 +83,7 @@ module _ (w : ℕ) (s : List ℕ) where
   block_grows at = omega (arith, behind_on (instr_end w s) instr_grows (at + 2 + 2) (num_at s at 2))
 
 -- ---- parts in a row; f: the bytes of one
-row_past :
+pub row_past :
     {A : Type 0} (f : A → List ℕ) (one : ℕ → A) (next : ℕ → ℕ) → ((p : ℕ) → next p ≡ p + length (f (one p))) →
     (n p : ℕ) → behind next p n ≡ p + total f (items one next p n)
 unfolding behind items
@@ -97,7 +97,7 @@ unfolding body_from instrs_from
 block_body w s at = map_items (λ i. i.it) (placed_from w s) (instr_end w s) (num_at s at 2) (at + 2 + 2)
 
 module _ (w : ℕ) (s : List ℕ) where
-  block_past : (at : ℕ) → block_end w s at ≡ at + length (block_bytes w (block_in w s at))
+  pub block_past : (at : ℕ) → block_end w s at ≡ at + length (block_bytes w (block_in w s at))
   unfolding block_end instrs_from
   block_past at =
       let e : block_end w s at ≡ at + 2 + 2 + total (instr_bytes w) (instrs_from w s (at + 2 + 2) (num_at s at 2)) =

@@ -1,0 +1,60 @@
+-- What the code asks of the parts that it converts, instructions, blocks and rows of both, and what it then has.
+use Rattle.std.specs.Prelude.{Result, Ok, Err, Option, Some, None, ℕ, ◌+◌, ◌^◌, ◌<◌, List, ◌++◌, map, ◌≡◌, length, drop}
+use mathlib.Core.List.{flat_map}
+use Rattle.record.specs.Record.{Instr, Placed, Block, id_bytes}
+use Rattle.record.specs.Write.{join, bytes}
+use Rattle.record.specs.Decode.{items, placed_from, instr_end, block_from, block_end, blocks_end}
+use Rattle.record.specs.Again.{record_in}
+use Rattle.record.specs.Good.{Each}
+use Rattle.record.specs.Versions.{in_version}
+use Rattle.record.specs.Sizes.{places_end}
+use Rattle.read_layout.specs.declared.Spot.{Spot}
+use Rattle.write_bytes.specs.Put.{Wrote}
+
+-- ---- the ids
+-- of the n instructions, and of the n blocks from a place on
+abbrev pub body_placed : ℕ → List ℕ → ℕ → ℕ → List Placed
+body_placed w s at n = items (placed_from w s) (instr_end w s) at n
+
+abbrev pub blocks_placed : ℕ → List ℕ → ℕ → ℕ → List Placed
+blocks_placed w s at n = flat_map (λ b. b.body) (items (block_from w s) (block_end w s) at n)
+
+-- the place of an instruction whose id has no room, or else what is there to say
+unfoldable pub scanned : Option ℕ → ℕ → Result ℕ ℕ
+scanned None n = Ok n
+scanned (Some o) n = Err o
+
+-- an id that fits w bytes; in each instruction of a block
+abbrev pub IdFits : ℕ → Instr → Type 0
+IdFits w i = i.id < 256 ^ w
+
+abbrev pub IdsFit : ℕ → Block Instr → Type 0
+IdsFit w b = Each (λ left i. IdFits w i) b.body
+
+-- ---- the parts
+-- the bytes of a row of parts; w: the bytes of an id
+abbrev pub row_bytes : {A : Type 0} → (ℕ → A → List ℕ) → ℕ → List A → List ℕ
+row_bytes one w xs = join (map (one w) xs)
+
+-- a part x stands at a place of s with ids of one width, and ends there; in the other width it fits, and there is room for it
+pub record Stands {A : Type 0} (f : ℕ → A → List ℕ) (fits : A → Type 0) (from to : ℕ) (s : List ℕ) (at : Spot) (x : A) (end : ℕ) : Type 0 where
+  pub rest : List ℕ
+  pub stands : drop at.p s ≡ f from x ++ rest
+  pub fits : fits x
+  pub reads : end < places_end
+  pub writes : at.q + length (f to x) < places_end
+
+-- it is written in the other width, and r is the place behind it in both
+pub record Put {A : Type 0} (f : ℕ → A → List ℕ) (to : ℕ) (out out' : List ℕ) (at r : Spot) (x : A) (end : ℕ) : Type 0 where
+  pub wrote : Wrote out out' at.q r.q (f to x)
+  pub next : r.p ≡ end
+
+-- ---- the record
+-- s is all of a record, which fits the other version, and has so many bytes there
+pub record Whole (from to version : ℕ) (s : List ℕ) (size : ℕ) : Type 0 where
+  pub all : bytes (record_in s) ≡ s
+  pub from_is : from ≡ id_bytes (record_in s).version
+  pub to_is : to ≡ id_bytes version
+  pub fits : Each (λ left b. IdsFit to b) (record_in s).blocks
+  pub near : blocks_end s < places_end
+  pub size_is : size ≡ length (bytes (in_version version (record_in s)))
