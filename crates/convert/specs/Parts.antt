@@ -1,9 +1,9 @@
 -- What the code asks of the parts that it converts, instructions, blocks and rows of both, and what it then has.
-use Rattle.std.specs.Prelude.{Result, Ok, Err, Option, Some, None, ℕ, ◌+◌, ◌^◌, ◌<◌, List, ◌++◌, map, ◌≡◌, length, drop}
+use Rattle.std.specs.Prelude.{Result, Ok, Err, Option, Some, None, ℕ, ◌+◌, ◌^◌, ◌<◌, ◌≤◌, List, ◌++◌, map, ◌≡◌, length, drop}
 use mathlib.Core.List.{flat_map}
 use Rattle.record.specs.Record.{Instr, Placed, Block, id_bytes}
 use Rattle.record.specs.Write.{join, bytes}
-use Rattle.record.specs.Decode.{items, placed_from, instr_end, block_from, block_end, blocks_end}
+use Rattle.record.specs.Decode.{items, placed_from, instr_end, block_from, block_end, names_end, blocks_end}
 use Rattle.record.specs.Again.{record_in}
 use Rattle.record.specs.Good.{Each}
 use Rattle.record.specs.Versions.{in_version}
@@ -37,10 +37,10 @@ abbrev pub row_bytes : {A : Type 0} → (ℕ → A → List ℕ) → ℕ → Lis
 row_bytes one w xs = join (map (one w) xs)
 
 -- a part x stands at a place of s with ids of one width, and ends there; in the other width it fits, and there is room for it
-pub record Stands {A : Type 0} (f : ℕ → A → List ℕ) (fits : A → Type 0) (from to : ℕ) (s : List ℕ) (at : Spot) (x : A) (end : ℕ) : Type 0 where
+pub record Stands {A : Type 0} (f : ℕ → A → List ℕ) (ok : A → Type 0) (from to : ℕ) (s : List ℕ) (at : Spot) (x : A) (end : ℕ) : Type 0 where
   pub rest : List ℕ
   pub stands : drop at.p s ≡ f from x ++ rest
-  pub fits : fits x
+  pub fits : ok x
   pub reads : end < places_end
   pub writes : at.q + length (f to x) < places_end
 
@@ -50,11 +50,11 @@ pub record Put {A : Type 0} (f : ℕ → A → List ℕ) (to : ℕ) (out out' : 
   pub next : r.p ≡ end
 
 -- ---- the record
--- s is all of a record, which fits the other version, and has so many bytes there
-pub record Whole (from to version : ℕ) (s : List ℕ) (size : ℕ) : Type 0 where
+-- s is all of a record, whose ids fit a version, and which has so many bytes there
+pub record Whole (version : ℕ) (s : List ℕ) (size : ℕ) : Type 0 where
   pub all : bytes (record_in s) ≡ s
-  pub from_is : from ≡ id_bytes (record_in s).version
-  pub to_is : to ≡ id_bytes version
-  pub fits : Each (λ left b. IdsFit to b) (record_in s).blocks
+  pub fits : Each (λ left b. IdsFit (id_bytes version) b) (record_in s).blocks
+  pub names : names_end s + 2 ≤ length s
   pub near : blocks_end s < places_end
   pub size_is : size ≡ length (bytes (in_version version (record_in s)))
+  pub small : size < places_end

@@ -3,17 +3,18 @@
 #![tactic(auto)]
 
 ghost use Rattle.std.specs.Prelude.{Ok, Err, ◌≡◌, ◌+◌, ◌*◌, ◌^◌, ◌<◌, ◌≤◌, length, ltb};
+ghost use Rattle.record.specs.Record.{id_bytes};
 ghost use Rattle.record.specs.Reader.{num_at};
 ghost use Rattle.record.specs.Write.{instr_bytes, block_bytes, bytes};
 ghost use Rattle.record.specs.Answer.{checked};
 ghost use Rattle.record.specs.Good.{Each};
-ghost use Rattle.record.specs.Decode.{behind, instr_from, instr_end, block_end};
+ghost use Rattle.record.specs.Decode.{behind, instr_from, instr_end, block_end, id_width};
 ghost use Rattle.record.specs.Again.{instrs_from, instrs_end, block_in, blocks_in, blocks_behind, record_in};
 ghost use Rattle.record.specs.Sizes.{places_end};
 ghost use Rattle.record.specs.Versions.{in_version, first_wide, convert, convert_leaves, widen, widen_leaves, narrow, narrow_leaves};
 ghost use Rattle.read_fields.specs.Places.{places};
 ghost use Rattle.read_layout.specs.Layout.{layout_of};
-ghost use Rattle.write_bytes.specs.Put.{put, Wrote, IdWidth};
+ghost use Rattle.write_bytes.specs.Put.{put};
 ghost use Rattle.convert.specs.Parts.{body_placed, blocks_placed, scanned, IdFits, IdsFit, row_bytes, Stands, Put, Whole};
 
 use read_layout::{Layout, Spot};
@@ -24,13 +25,14 @@ const NARROW: u8 = 1;
 
 const WIDE: u8 = 2;
 
-// An accepted record, and how many bytes an id has in it and is to have.
+// A record and the version that is wanted, and how many bytes an id has in each.
 #[derive(Clone, Copy, PartialEq, Eq, Debug)]
 struct Source<'a> {
     reads: &'a [u8],
+    version: u8,
     from: usize,
     to: usize,
-    ghost widths: { IdWidth from × IdWidth to },
+    ghost widths: { (from ≡ id_width reads.now) × (to ≡ id_bytes version) },
 }
 
 impl Source<'_> {
@@ -38,7 +40,7 @@ impl Source<'_> {
     // Whether the id of the instruction at a place has room.
     fn fits(self, at: usize) -> bool
         requires { at + 7 < places }
-        ensures { result ≡ ltb (num_at self.reads.now at self.from) (256 ^ self.to) }
+        ensures { result ≡ ltb (num_at self.entry.reads.now at self.entry.from) (256 ^ self.entry.to) }
     {
         self.to == 8 || read_instrs::read_id(self.reads, at, self.from) < 1 << 32
     }
@@ -46,7 +48,7 @@ impl Source<'_> {
     // Of n instructions from a place on, the place of the first whose id has no room; else the place behind them.
     fn scan_body(self, at: usize, n: usize) -> Result<usize, usize>
         requires { behind (instr_end self.from self.reads.now) at n < places_end }
-        ensures { result ≡ scanned (first_wide self.to (body_placed self.from self.reads.now at n)) (behind (instr_end self.from self.reads.now) at n) }
+        ensures { result ≡ scanned (first_wide self.entry.to (body_placed self.entry.from self.entry.reads.now at n)) (behind (instr_end self.entry.from self.entry.reads.now) at n) }
     {
         let mut p = at;
         for _ in 0..n {
@@ -61,7 +63,7 @@ impl Source<'_> {
     // Of n blocks from a place on, the place of the first instruction whose id has no room; else how many instructions they have.
     fn scan_blocks(self, at: usize, n: usize) -> Result<usize, usize>
         requires { (behind (block_end self.from self.reads.now) at n < places_end) × (n < 65536) }
-        ensures { result ≡ scanned (first_wide self.to (blocks_placed self.from self.reads.now at n)) (length (blocks_placed self.from self.reads.now at n)) }
+        ensures { result ≡ scanned (first_wide self.entry.to (blocks_placed self.entry.from self.entry.reads.now at n)) (length (blocks_placed self.entry.from self.entry.reads.now at n)) }
     {
         let mut p = at;
         let mut count = 0;
@@ -78,8 +80,8 @@ impl Source<'_> {
     fn put_instr(self, out: &mut [u8], at: Spot) -> Spot
         requires { Stands instr_bytes (IdFits self.to) self.from self.to self.reads.now at (instr_from self.from self.reads.now at.p)
             (instr_end self.from self.reads.now at.p) }
-        ensures { Put instr_bytes self.to out.old out.new at result (instr_from self.from self.reads.now at.p)
-            (instr_end self.from self.reads.now at.p) }
+        ensures { Put instr_bytes self.entry.to out.old out.new at result (instr_from self.entry.from self.entry.reads.now at.p)
+            (instr_end self.entry.from self.entry.reads.now at.p) }
     {
         let id = read_instrs::read_id(self.reads, at.p, self.from);
         let end = read_layout::instr_end(self.reads, self.from, at.p);
@@ -93,8 +95,8 @@ impl Source<'_> {
     fn put_body(self, out: &mut [u8], at: Spot, n: usize) -> Spot
         requires { Stands (row_bytes instr_bytes) (Each (λ left i. IdFits self.to i)) self.from self.to self.reads.now at
             (instrs_from self.from self.reads.now at.p n) (instrs_end self.from self.reads.now at.p n) }
-        ensures { Put (row_bytes instr_bytes) self.to out.old out.new at result (instrs_from self.from self.reads.now at.p n)
-            (instrs_end self.from self.reads.now at.p n) }
+        ensures { Put (row_bytes instr_bytes) self.entry.to out.old out.new at result (instrs_from self.entry.from self.entry.reads.now at.p n)
+            (instrs_end self.entry.from self.entry.reads.now at.p n) }
     {
         let mut to = at;
         for _ in 0..n {
@@ -107,8 +109,8 @@ impl Source<'_> {
     fn put_block(self, out: &mut [u8], at: Spot) -> Spot
         requires { Stands block_bytes (IdsFit self.to) self.from self.to self.reads.now at (block_in self.from self.reads.now at.p)
             (block_end self.from self.reads.now at.p) }
-        ensures { Put block_bytes self.to out.old out.new at result (block_in self.from self.reads.now at.p)
-            (block_end self.from self.reads.now at.p) }
+        ensures { Put block_bytes self.entry.to out.old out.new at result (block_in self.entry.from self.entry.reads.now at.p)
+            (block_end self.entry.from self.entry.reads.now at.p) }
     {
         let (n, p) = read_layout::block_head(self.reads, at.p);
         let q = write_bytes::copy_bytes(self.reads, at.p, 4, out, at.q);
@@ -119,8 +121,8 @@ impl Source<'_> {
     fn put_blocks(self, out: &mut [u8], at: Spot, n: usize) -> Spot
         requires { Stands (row_bytes block_bytes) (Each (λ left b. IdsFit self.to b)) self.from self.to self.reads.now at
             (blocks_in self.from self.reads.now at.p n) (blocks_behind self.from self.reads.now at.p n) }
-        ensures { Put (row_bytes block_bytes) self.to out.old out.new at result (blocks_in self.from self.reads.now at.p n)
-            (blocks_behind self.from self.reads.now at.p n) }
+        ensures { Put (row_bytes block_bytes) self.entry.to out.old out.new at result (blocks_in self.entry.from self.entry.reads.now at.p n)
+            (blocks_behind self.entry.from self.entry.reads.now at.p n) }
     {
         let mut to = at;
         for _ in 0..n {
@@ -130,12 +132,12 @@ impl Source<'_> {
     }
 
     // The record in the version that is wanted, which has so many bytes: L, the version, all up to the blocks as it stands, and the blocks.
-    fn put_record(self, out: &mut [u8], layout: Layout, version: u8, size: u32)
-        requires { Whole self.from self.to version self.reads.now size × (layout ≡ layout_of self.reads.now) }
-        ensures { out.new ≡ put out.old 0 (bytes (in_version version (record_in self.reads.now))) }
+    fn put_record(self, out: &mut [u8], layout: Layout, size: u32)
+        requires { Whole self.version self.reads.now size × (layout ≡ layout_of self.reads.now) }
+        ensures { out.new ≡ put out.old 0 (bytes (in_version self.entry.version (record_in self.entry.reads.now))) }
     {
         write_bytes::put_u32(out, 0, size - 4);
-        write_bytes::put_u8(out, 4, version);
+        write_bytes::put_u8(out, 4, self.version);
         let p = layout.end + 2;
         let q = write_bytes::copy_bytes(self.reads, 5, p - 5, out, 5);
         self.put_blocks(out, Spot { p, q }, layout.blocks);
@@ -150,6 +152,7 @@ fn convert_accepted(s: &[u8], out: &mut [u8], version: u8) -> Result<usize, Conv
     let layout = read_layout::layout_of(s, &mut [], &mut []);
     let source = Source {
         reads: s,
+        version,
         from: layout.width,
         to: read_layout::id_bytes(u64::from(version)),
     };
@@ -160,7 +163,7 @@ fn convert_accepted(s: &[u8], out: &mut [u8], version: u8) -> Result<usize, Conv
     if out.len() < size {
         return Err(ConvertError::Room(size));
     }
-    source.put_record(out, layout, version, size as u32);
+    source.put_record(out, layout, size as u32);
     Ok(size)
 }
 
