@@ -179,19 +179,24 @@ module _ (s : List ℕ) (h : Bytes s) (r : Record Placed) (p : ℕ) (a : accept 
       subst (Converts r.version (converted_bytes v r)) same
       (converts (converted_bytes v r) b.are_bytes b.back (length (converted_bytes v r)) b.accepts r.version fit)
 
-  -- so what a conversion wrote, converted to the version of s, is s
+  -- what a conversion wrote is s in version v
+  pub what_was_written :
+      (one : List ℕ) (n : ℕ) → convert v s one ≡ Ok n →
+      (first_wide (id_bytes v) (instructions r) ≡ None) × (take n (convert_leaves v s one) ≡ converted_bytes v r)
+  what_was_written one n e =
+      let w = was_converted v s one r p n a e in
+      let new = converted_bytes v r in
+      let wrote : convert_leaves v s one ≡ new ++ drop (length new) one = (converts s h r p a v w.0).leaves one (omega (arith, w.1, w.2)) in
+      (w.0, (λ i. take (sym w.1 i) (wrote i)) ∙ take-append_seam new (drop (length new) one))
+
+  -- so that, converted to the version of s, is s
   pub there_and_back :
       (one two : List ℕ) (n : ℕ) → convert v s one ≡ Ok n → length s ≤ length two →
       Writes r.version (take n (convert_leaves v s one)) s two
   there_and_back one two n e l =
-      let w = was_converted v s one r p n a e in
-      let new = converted_bytes v r in
-      let c = converts s h r p a v w.0 in
-      let wrote : convert_leaves v s one ≡ new ++ drop (length new) one = c.leaves one (omega (arith, w.1, w.2)) in
-      let taken : take n (convert_leaves v s one) ≡ new =
-      (λ i. take (sym w.1 i) (wrote i)) ∙ take-append_seam new (drop (length new) one) in
+      let w = what_was_written one n e in
       let b = back_again w.0 in
-      rw taken (b.says two l, b.leaves two l)
+      rw w.1 (b.says two l, b.leaves two l)
 
 -- ---- widening and narrowing by name
 module _ (s : List ℕ) (h : Bytes s) (r : Record Placed) (p : ℕ) (a : accept limits s ≡ got r p) where
