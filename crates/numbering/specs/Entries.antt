@@ -1,6 +1,6 @@
 -- Rewrite and the program by example: refusals, untouched bytes and lines; and the samples whose runs are computed.
 use Rattle.std.specs.Prelude.{ℕ, ◌≡◌, refl, true, List, [], ◌∷◌, ◌++◌, map, replicate}
-use Rattle.record.specs.Samples.{division, division_rewritten, call, call_rewritten, loop, loop_rewritten, walk, walk_rewritten, comparison, comparison_rewritten, quotient, quotient_rewritten, join, join_rewritten}
+use Rattle.record.specs.Samples.{division, division_rewritten, call, call_rewritten, call_wide, call_wide_rewritten, loop, loop_rewritten, walk, walk_rewritten, comparison, comparison_rewritten, quotient, quotient_rewritten, join, join_rewritten}
 use Rattle.record.specs.Hex.{hex}
 use Rattle.record.specs.Text.{same_bytes}
 use Rattle.numbering.specs.Program.{output_with}
@@ -58,12 +58,13 @@ leaves = refl
 pub samples :
     same_bytes (prints division) division_rewritten ∷
     same_bytes (prints call) call_rewritten ∷
+    same_bytes (prints call_wide) call_wide_rewritten ∷
     same_bytes (prints loop) loop_rewritten ∷
     same_bytes (prints walk) walk_rewritten ∷
     same_bytes (prints comparison) comparison_rewritten ∷
     same_bytes (prints quotient) quotient_rewritten ∷
     same_bytes (prints join) join_rewritten ∷
     [] ≡
-    true ∷ true ∷ true ∷ true ∷ true ∷ true ∷ true ∷ []
+    true ∷ true ∷ true ∷ true ∷ true ∷ true ∷ true ∷ true ∷ []
 unfolding all_of_numbering
 samples = refl
