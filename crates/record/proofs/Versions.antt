@@ -2,6 +2,7 @@
 -- Each is one theorem over the version that is wanted; of an accepted record, what its ids are is in Ids.
 use Prim.Native.Nat.{ℕ, ◌^◌, ◌<◌, ◌≤◌}
 use mathlib.Core.Path.{◌≡◌, refl, sym, ap, ◌∙◌, subst}
+use mathlib.Core.Logic.{◌↔◌}
 use mathlib.Core.List.{List, ◌++◌, map}
 use mathlib.Core.Bool.{Bool, true, false, cond}
 use native.Mathlib.Omega.{arith}
@@ -14,6 +15,7 @@ use Rattle.std.specs.Prelude.{Option, Some, None, Ok, Err}
 use Rattle.record.specs.declared.ConvertError.{ConvertError}
 use Rattle.record.specs.declared.ConvertError.TheVariants.{Refused, Wide, Room}
 use Rattle.record.specs.declared.Refusal.{Refusal}
+use Rattle.record.specs.declared.Fault.{Fault}
 use Rattle.record.specs.Record.{Bytes, Instr, Placed, Record, plain, function, texts, limits, id_bytes}
 use Rattle.record.specs.Reader.{Res, got, fault}
 use Rattle.record.specs.Tests.{version_test}
@@ -21,9 +23,10 @@ use Rattle.record.specs.Typing.{accept}
 use Rattle.record.specs.Write.{content_bytes, bytes}
 use Rattle.record.specs.Good.{RecordOk}
 use Rattle.record.specs.Ranged.{Ranged}
-use Rattle.record.specs.Answer.{fault_at}
+use Rattle.record.specs.Answer.{fault_at, checked_as, checked}
 use Rattle.record.specs.Versions.{in_version, converted_bytes, instructions, first_wide, converted_as, convert_result, written_as, convert_output, convert, convert_leaves, widen, widen_leaves, narrow, narrow_leaves}
 use Rattle.record.proofs.Accepted.{read_ok}
+use Rattle.record.proofs.Judged.{refused_as}
 use Rattle.record.proofs.Ranged.{read_ranged}
 use Rattle.record.proofs.ReadFrom.{accept_from}
 use Rattle.record.proofs.Written.{bytes_written}
@@ -33,12 +36,26 @@ use Rattle.record.proofs.Typed.{accept_typed, accepts_back}
 use Rattle.record.proofs.Ids.{Fit, none_fit, fit_none, ids, ids_of, ranged_fit, ranged_in, good_in, fit_more}
 
 -- ---- the three answers
--- "after check's refusals": what check refuses is refused so, whatever the output, and nothing is written
-pub refused_first :
-    (v : ℕ) (s out : List ℕ) (k : Refusal) (o : ℕ) → accept limits s ≡ fault k o →
-    (convert v s out ≡ Err (Refused (fault_at k o))) × (convert_leaves v s out ≡ out)
-unfolding convert convert_leaves convert_result convert_output
-refused_first v s out k o e = rw e (refl, refl)
+-- "after check's refusals": what check refuses is refused so, whatever the output, and nothing else is
+refused_first : (v : ℕ) (s out : List ℕ) (k : Refusal) (o : ℕ) → accept limits s ≡ fault k o → convert v s out ≡ Err (Refused (fault_at k o))
+unfolding convert convert_result
+refused_first v s out k o e = rw e
+
+pub refused_exactly : (v : ℕ) (s out : List ℕ) (f : Fault) → (convert v s out ≡ Err (Refused f)) ↔ (checked s ≡ Err f)
+unfolding convert convert_result converted_as checked
+refused_exactly v s out f = (λ e. from (accept limits s) e, λ e. refused_first v s out f.refusal f.offset (refused_as s f e))
+  where
+    room : (b : Bool) (m : ℕ) {A : Type 0} → cond b (Err (Room m)) (Ok m) ≡ Err (Refused f) → A
+    room true m e = clash (cc)
+    room false m e = clash (cc)
+
+    fits : (w : Option ℕ) (m : ℕ) {A : Type 0} → converted_as w (length out) m ≡ Err (Refused f) → A
+    fits (Some o) m e = clash (cc)
+    fits None m e = room (ltb (length out) m) m e
+
+    from : (a : Res (Record Placed)) → convert_result v (length out) a ≡ Err (Refused f) → checked_as a ≡ Err f
+    from (got r p) e = fits (first_wide (id_bytes v) (instructions r)) (length (converted_bytes v r)) e
+    from (fault k o) e = let q : fault_at k o ≡ f = cc e in ap Err q
 
 -- "nothing is written" where it is refused for any reason
 pub untouched : (v : ℕ) (s out : List ℕ) (e : ConvertError) → convert v s out ≡ Err e → convert_leaves v s out ≡ out
@@ -240,5 +257,5 @@ pub widen_never_wide : (s out : List ℕ) → Bytes s → (o : ℕ) → widen s 
 widen_never_wide s out h o e = go (accept limits s) refl
   where
     go : (a : Res (Record Placed)) → accept limits s ≡ a → ⊥
-    go (fault k q) a = let f = (refused_first 2 s out k q a).0 in clash (cc)
+    go (fault k q) a = let f = refused_first 2 s out k q a in clash (cc)
     go (got r p) a = widened_fits s h r p a out o e
