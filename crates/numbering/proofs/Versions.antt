@@ -1,4 +1,5 @@
--- Document 02, Point 7: "the rewriting keeps the version it was given", and widening or narrowing, then rewriting, is rewriting, then the other version.
+-- Document 02, Point 7: "the rewriting keeps the version it was given", and of a record that was widened or narrowed it is the rewriting of the
+-- input in the other version.
 use Prim.Native.Nat.{ℕ, suc, ◌≤◌}
 use mathlib.Core.Path.{◌≡◌, refl, ap, subst}
 use mathlib.Core.List.{List, [], ◌∷◌, ◌++◌}
@@ -41,7 +42,7 @@ rewritten_in v r = bytes (in_version v (rewriting (plain r)))
 abbrev pub Rewrites : List ℕ → List ℕ → ℕ → List ℕ → Type 0
 Rewrites s new k out = (rewrite s out ≡ Ok (totals (length new) k)) × (rewrite_leaves s out ≡ new ++ drop (length new) out)
 
--- whatever is accepted is rewritten so; q: the record without its places
+-- whatever is accepted is rewritten so
 accepted_rewrites :
     (s out : List ℕ) (r : Record Placed) (p : ℕ) → accept limits s ≡ got r p → length (rewritten_bytes r) ≤ length out →
     Rewrites s (rewritten_bytes r) (length (made (plain r))) out
@@ -51,6 +52,7 @@ accepted_rewrites s out r p a l =
     let t : ltb (length out) n ≡ false = le-ltb (length out) n l in
     (rw (a, t), rw (a, t))
 
+-- q: the record without its places
 rewrites_as :
     (s out : List ℕ) (r : Record Placed) (p : ℕ) (q : Record Instr) → accept limits s ≡ got r p → plain r ≡ q →
     length (bytes (rewriting q)) ≤ length out → Rewrites s (bytes (rewriting q)) (length (made q)) out

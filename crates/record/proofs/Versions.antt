@@ -1,5 +1,5 @@
 -- "A widening and a narrowing are added" (document 02, Point 7): what is proved of a conversion to either version, each theorem with its sentence.
--- Each is one theorem over the version that is wanted; of an accepted record, what its ids are is in Ids.
+-- Each is one theorem over the version that is wanted, and so both directions; what is proved of a record's ids is in Ids.
 use Prim.Native.Nat.{ℕ, ◌^◌, ◌<◌, ◌≤◌}
 use mathlib.Core.Path.{◌≡◌, refl, sym, ap, ◌∙◌, subst}
 use mathlib.Core.Logic.{◌↔◌}

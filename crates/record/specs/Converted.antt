@@ -97,7 +97,7 @@ faulty =
     -- too short, L wrong; version 0, 3 and 255
     hex "000000" ∷ hex "00000013 02 00 0000 0001 0001 0000 0000000100000000 45 00" ∷
     hex "00000006 00 00 0000 0000" ∷ hex "00000006 03 00 0000 0000" ∷ hex "00000006 FF 00 0000 0000" ∷
-    -- behind a wide id: an argument count, a malformed text before it, an unknown code, jmp before the last place, a name, a wrong type, a byte left over
+    -- with a wide id: an argument count, a malformed text, an unknown code, jmp before the last place, a name, a wrong type, a byte left over
     hex "00000014 02 00 0000 0001 0001 0000 0000000100000000 45 01" ∷
     hex "00000017 02 00 0001 000131 0001 0001 0000 0000000100000000 45 00" ∷
     hex "00000014 02 00 0000 0001 0001 0000 0000000100000000 48 00" ∷

@@ -111,7 +111,8 @@ module _ (s : List ℕ) (h : Bytes s) (r : Record Placed) (p : ℕ) (a : accept 
       let x : u.width ≡ id_bytes v = cc both in
       let n : u.names ≡ t.names = cc both in
       let c : u.config ≡ t.config = cc both in
-      let ones : events_left t.width t.config ≡ events_bytes (id_bytes r.version) t.config.mach.events = ap (λ (w : ℕ). events_left w t.config) width in
+      let ones : events_left t.width t.config ≡ events_bytes (id_bytes r.version) t.config.mach.events =
+      ap (λ (w : ℕ). events_left w t.config) width in
       let twos : events_left u.width u.config ≡ events_bytes (id_bytes v) t.config.mach.events = λ i. events_left (x i) (c i) in
       let stores : store_left u.names u.config ≡ store_left t.names t.config = λ i. store_left (n i) (c i) in
       record {
