@@ -435,7 +435,7 @@ def checked_first():
     good = to_bytes(from_text(FRAME))
     body = good[4:]
     record = lambda data: struct.pack(">I", len(data)) + data
-    bad = [(1, b""), (1, good[:3]), (1, good + b"\x00"), (1, good[:-1]), (1, record(body + b"\x00")), (2, record(b"\x02" + body[1:])),
+    bad = [(1, b""), (1, good[:3]), (1, good + b"\x00"), (1, good[:-1]), (1, record(body + b"\x00")), (2, record(b"\x03" + body[1:])),
            (3, record(body[:1] + b"\x11" + body[2:])), (4, record(body.replace(b"y", b"x"))),
            (5, record(body.replace(b"\x14\x00\x00\x01", b"\x13\x00\x00\x01"))),
            (6, record(body.replace(b"\x14\x00\x00\x01", b"\x14\x00\x02\x01"))),

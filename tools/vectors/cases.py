@@ -1,6 +1,7 @@
-"""Puts C13 to C16, the records of phis and all other stored rewritings into the
-list that the program replay_rewrite replays: a line holds a record, 0, its saves
-and its rewriting, or a record and the number and offset of its refusal.
+"""Puts C13 to C16, the records of phis, all other stored rewritings and those of
+version 2 into the list that the program replay_rewrite replays: a line holds a
+record, 0, its saves and its rewriting, or a record and the number and offset of
+its refusal.
 
 Usage: cases.py > crates/replay_rewrite/stdin
 """
@@ -32,6 +33,9 @@ def main():
         for line in (VECTORS / name).read_text().splitlines():
             record, answer = line.split()[-2:]
             print(case(record, [answer]))
+    for line in (VECTORS / "wide.txt").read_text().splitlines():
+        _, record, *answer = line.split()
+        print(case(record, answer))
 
 
 if __name__ == "__main__":

@@ -1,11 +1,11 @@
 """Document 01's check: the first refusal of a record, or None if accepted.
 
-Written from document 01 and Point 5 of document 02, with a reader of its own.
+Written from document 01 and Points 5 and 7 of document 02, with a reader of its own.
 """
 
 import re
 
-from record import BOOL, CHAR, FLOAT, INT, POINTER
+from record import BOOL, CHAR, FLOAT, ID_BYTES, INT, POINTER
 
 RESERVED = re.compile(r"_.+_lvn[0-9]+", re.DOTALL)
 TEXT = re.compile(r"[A-Za-z_.][A-Za-z0-9_.]*")
@@ -58,8 +58,10 @@ class Check:
     def record(self):
         if len(self.data) < 4 or self.number(4) != len(self.data) - 4:
             self.refuse(1, 0)
-        if self.number(1) != 1:
+        version = self.number(1)
+        if version not in ID_BYTES:
             self.refuse(2)
+        self.width = ID_BYTES[version]
         nargs = self.number(1, 16)
         self.names = self.number(2, 256)
         if nargs > self.names:
@@ -90,7 +92,7 @@ class Check:
 
     def instr(self, last):
         offset = self.at
-        self.number(4)
+        self.number(self.width)
         code = self.number(1)
         if code not in COUNTS:
             self.refuse(5)

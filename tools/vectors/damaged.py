@@ -4,7 +4,9 @@ A record is laid out as a list of fields, each with its name, value and width.
 A damage changes one field, or cuts the record in one, so that document 01 says
 which refusal follows and where: it is written down here beside the damage and
 is not the answer of any check. L is made right again after each damage but
-those of L itself.
+those of L itself. The two records of version 1 have every operation; those of
+version 2 are small, with every shape of an instruction, and ids on each side of
+2^32.
 
     python3 tools/vectors/damaged.py > crates/replay_check/stdin
 
@@ -14,7 +16,7 @@ Each line: the record in hex, the refusal's number and offset; 0 0 if accepted.
 import sys
 
 from check import check
-from record import CALLS, INT, PHI, VALUE, from_text, target_count
+from record import CALLS, ID_BYTES, INT, PHI, VALUE, from_text, target_count
 
 FUNCTION = """arg a int
 arg b int
@@ -76,16 +78,49 @@ block
 """
 
 
+# Records of version 2: between them every shape of what follows a code.
+WIDE = ["""arg x int
+name c bool
+block
+4294967295 c = const bool 1
+4294967296 x = add x x
+""", """arg h char
+block
+7 h = call @9 h
+18446744073709551615 h = const char 97
+""", """arg a int
+block
+4294967296 nop
+4294967297 print a
+block
+9223372036854775808 jmp .1
+""", """arg x int
+block
+18446744073709551615 x = phi x .0
+0 call @4 x
+""", """arg c bool
+block
+4294967296 c = not c
+4294967296 br c .0 .0
+""", """arg p ptr<int>
+name x int
+block
+1 store p x
+block
+18446744069414584320 ret x
+"""]
+
+
 def fields_of(f):
     """The fields of a record behind L: name, value, width; an id starts an instruction."""
-    out = [("version", 1, 1), ("A", f.nargs, 1), ("N", len(f.names), 2)]
+    out = [("version", f.version, 1), ("A", f.nargs, 1), ("N", len(f.names), 2)]
     for type_, text in f.names:
         out += [("type", type_, 1), ("text length", len(text), 1), ("text", text.encode(), len(text))]
     out.append(("B", len(f.blocks), 2))
     for b in f.blocks:
         out += [("n", len(b.instrs), 2), ("saves", b.saves, 2)]
         for i in b.instrs:
-            out += [("id", i.id, 4), ("code", i.code, 1)]
+            out += [("id", i.id, ID_BYTES[f.version]), ("code", i.code, 1)]
             if i.code in VALUE or i.code == 0:
                 out.append(("dest", i.dest, 2))
             if i.code == 0:
@@ -130,7 +165,7 @@ class Record:
 
     def of(self, number, name, nth=0):
         """The field of this name, the nth of them, in the instruction with this id."""
-        start = self.fields.index(("id", number, 4))
+        start = next(k for k, field in enumerate(self.fields) if field[:2] == ("id", number))
         return [k for k in range(start, len(self.fields)) if self.fields[k][0] == name][nth]
 
     def start_of(self, k):
@@ -146,12 +181,12 @@ def cuts(r):
         yield r.cut(k, 0 if k % 2 else width - 1), (1, r.offsets[k])
 
 
-def field_damages(r, names, blocks):
-    """A value that a field's own test refuses."""
+def field_damages(r, names, blocks, many=60):
+    """Values that a field's own test refuses; at most two of each field behind so many."""
     for k, (name, value, width) in enumerate(r.fields):
         at = r.offsets[k]
         bad = {
-            "version": [(0, 2), (2, 2), (255, 2)],
+            "version": [(0, 2), (3, 2), (255, 2)],
             "A": [(17, 3), (255, 3)],
             "N": [(257, 3), (65535, 3), (r.fields[1][1] - 1, 3)],
             "type": [(4, 3), (0x1F, 3), (0xF4, 3)],
@@ -165,7 +200,7 @@ def field_damages(r, names, blocks):
             "argument": [(names, 6), (65535, 6)],
             "block": [(blocks, 6), (65535, 6)],
         }.get(name, [])
-        for value, number in bad[:2] if k > 60 else bad:
+        for value, number in bad[:2] if k > many else bad:
             yield r.changed(k, value).bytes(), (number, at)
 
 
@@ -181,9 +216,9 @@ def text_damages(r):
         seen.append(value)
 
 
-def renamed(text):
+def renamed(text, version):
     """One name of another text, and whether document 01 lets it pass."""
-    return with_length(bytes([1, 0, 0, 1, INT, len(text)]) + text.encode() + bytes(2))
+    return with_length(bytes([version, 0, 0, 1, INT, len(text)]) + text.encode() + bytes(2))
 
 
 TEXTS = [("_x_lvn0", False), ("___lvn0", False), ("_x_lvn00", False), ("_lvn0_lvn0", False), ("_a_lvn_lvn7", False),
@@ -213,11 +248,11 @@ def more_damages(r):
                 yield r.changed(k, value - 1).bytes(), (3, at)
         if name == "callee":
             yield r.changed(k, 65535).bytes(), (0, 0)
-        if name == "code" and value == 69:  # nop before the last place becomes a terminator
+        if name == "code" and value == 69 and r.fields[k + 2][0] == "id":  # nop before the last place becomes a terminator
             for terminator in (64, 65, 66):
                 yield r.changed(k, terminator).bytes(), (8, at)
         if name == "id":
-            yield r.changed(k, 0xFFFFFFFF).bytes(), (0, 0)
+            yield r.changed(k, (1 << 8 * width) - 1).bytes(), (0, 0)
     yield with_length(r.bytes()[4:] + b"\x00"), (1, len(r.bytes()))
     yield with_length(r.bytes()[4:] + bytes(300)), (1, len(r.bytes()))
 
@@ -277,18 +312,56 @@ def two_damages(r):
     yield wrong.changed(order[-1], 200).bytes(), (6, r.offsets[order[-1]])
 
 
-def accepted():
-    yield bytes.fromhex("00000006010000000000"), (0, 0)
+def id_cuts(r):
+    """Each id with fewer bytes than it has, the others with theirs."""
+    for k, (name, _, width) in enumerate(r.fields):
+        if name == "id":
+            for inside in range(width):
+                yield r.cut(k, inside), (1, r.offsets[k])
+
+
+def wide_damages(text, whole):
+    """A record of version 2, damaged in each of these ways; unless it is wanted whole, at its blocks alone."""
+    f = from_text("version 2\n" + text)
+    r, types = Record(fields_of(f)), [t for t, _ in f.names]
+    first = next(at for at, field in zip(r.offsets, r.fields) if field[0] == "n")
+    if whole:
+        yield from first_damages(r)
+        yield from text_damages(r)
+    yield r.bytes(), (0, 0)
+    fields = field_damages(r, len(f.names), len(f.blocks), 60 if whole else 0)
+    for damages in (cuts(r), id_cuts(r), fields, more_damages(r), type_damages(r, types)):
+        yield from (d for d in damages if len(d[0]) < 200 and (whole or d[1] == (0, 0) or d[1][1] >= first))
+
+
+# C1 with the version byte of the other version, and what is found where the widths do not fit
+C1 = "00 0003 000161 000162 000178 0001 0002 0000"
+OTHER_VERSION = [
+    ("02 02" + C1[2:] + "00000007 01 0002 02 0000 0001 00000008 01 0002 02 0001 0000", (3, 35)),  # a bool literal of 00000008 01000202
+    ("01 02" + C1[2:] + "0000000000000007 01 0002 02 0000 0001 0000000000000008 01 0002 02 0001 0000", (3, 30)),  # const, literal kind 07
+]
+
+
+def of_version_2():
+    yield from dict.fromkeys(d for text in WIDE for d in wide_damages(text, text == WIDE[0]))
+    for text, refusal in OTHER_VERSION:
+        yield with_length(bytes.fromhex(text)), refusal
+    yield next(accepted(2))
+
+
+def accepted(version):
+    yield with_length(bytes([version]) + bytes(5)), (0, 0)
     names = b"".join(bytes([0, 32]) + b"n%03d" % i + b"x" * 28 for i in range(256))
-    nop = bytes([0, 0, 0, 9, 69, 0])
+    nop = (9).to_bytes(ID_BYTES[version], "big") + bytes([69, 0])
     block = (256).to_bytes(2, "big") + bytes(2) + nop * 256
-    yield with_length(bytes([1, 16, 1, 0]) + names + bytes([0, 1]) + block), (0, 0)
+    yield with_length(bytes([version, 16, 1, 0]) + names + bytes([0, 1]) + block), (0, 0)
     empty = bytes(4)
-    yield with_length(bytes([1, 0, 0, 0, 0, 64]) + empty * 64), (0, 0)
+    yield with_length(bytes([version, 0, 0, 0, 0, 64]) + empty * 64), (0, 0)
 
 
-def cases():
-    f = from_text(FUNCTION)
+def of_all_operations(version):
+    """The two records with every operation, in a version, damaged."""
+    f, phis = (from_text("version %d\n" % version + text) for text in (FUNCTION, PHIS))
     r = Record(fields_of(f))
     types = [t for t, _ in f.names]
     yield r.bytes(), (0, 0)
@@ -297,22 +370,29 @@ def cases():
     yield from field_damages(r, len(f.names), len(f.blocks))
     yield from text_damages(r)
     for text, passes in TEXTS:
-        yield renamed(text), (0, 0) if passes else (4, 10)
+        yield renamed(text, version), (0, 0) if passes else (4, 10)
     yield from more_damages(r)
     yield from type_damages(r, types)
-    yield from accepted()
-    yield from phi_damages(from_text(PHIS))
+    yield from accepted(version)
+    yield from phi_damages(phis)
+
+
+def cases():
+    """Those of the list, in which there is no room for all of version 2."""
+    yield from of_all_operations(1)
+    yield from of_version_2()
 
 
 def main():
-    wrong = 0
-    for record, (number, offset) in cases():
+    listed, wrong = list(cases()), 0
+    for record, (number, offset) in listed:
         print(record.hex(), number, offset)
+    for record, (number, offset) in listed + list(of_all_operations(2)):
         answer = check(record) or (0, 0)
         if tuple(answer) != (number, offset):
             wrong += 1
             print(record.hex(), "by damage", (number, offset), "by check.py", answer, file=sys.stderr)
-    print("%d cases, %d differ from check.py" % (len(list(cases())), wrong), file=sys.stderr)
+    print("%d cases, %d differ from check.py" % (len(listed), wrong), file=sys.stderr)
     sys.exit(wrong != 0)
 
 

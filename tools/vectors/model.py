@@ -56,7 +56,7 @@ class Model:
 
     def rewrite(self):
         blocks = [self.block(b) for b in self.f.blocks]
-        return Function(self.f.nargs, self.names, blocks)
+        return Function(self.f.nargs, self.names, blocks, self.f.version)
 
     def block(self, block):
         nargs = self.f.nargs

@@ -17,7 +17,8 @@ import sys
 from pathlib import Path
 
 from check import check
-from damaged import Record, cuts, field_damages, fields_of, first_damages, more_damages, text_damages, type_damages
+from damaged import (Record, cuts, field_damages, fields_of, first_damages, more_damages, of_version_2, text_damages,
+                     type_damages)
 from record import from_bytes, from_text
 
 VECTORS = Path(__file__).resolve().parents[2] / "vectors"
@@ -247,6 +248,55 @@ def inputs_refused():
             yield record, rewritings[k % 6], (0, len(f.names), HUGE)[k % 7 % 3], refused(number, offset)
 
 
+# Version 2
+
+def wide_pairs():
+    """Stored inputs of version 2 with their rewritings, by label."""
+    found = {}
+    for line in (VECTORS / "wide.txt").read_text().splitlines():
+        label, record, *answer = line.split()
+        if len(answer) == 1:
+            found[label] = bytes.fromhex(record), bytes.fromhex(answer[0])
+    return found
+
+
+def wide_stored():
+    """On each side of N, and at and above the count."""
+    for record, rewriting in list(wide_pairs().values())[::3]:
+        own, made = names_of(record), names_of(rewriting)
+        n, m = len(own), len(made)
+        for index in sorted({n, m} if n > 100 else {max(n - 1, 0), n, m}):
+            yield record, rewriting, index, expected(own, made, index)
+
+
+def other_versions():
+    """The rewriting of the same function in the other version, both ways; and with other version bytes."""
+    wide = wide_pairs()
+    for line in (VECTORS / "worked.txt").read_text().splitlines():
+        label, record, rewriting = line.split(" ", 2)
+        if label in wide and len(record) < 1000:
+            one, two = (bytes.fromhex(record), bytes.fromhex(rewriting)), wide[label]
+            for index in sorted({0, len(names_of(one[0])), HUGE}) if label == "C1" else [0]:
+                yield one[0], two[1], index, refused(11)
+                yield two[0], one[1], index, refused(11)
+    record, rewriting = wide["C1"]
+    own, made = names_of(record), names_of(rewriting)
+    tail = rewriting[place(made, len(made)) - 2:]
+    for version in (0, 1, 3, 18, 130, 255):
+        for index in (0, len(own), HUGE):
+            yield record, laid(made, tail, version=version), index, refused(11)
+    yield record, laid(made, b"", version=2), len(own), expected(own, made, len(own))
+    yield record, laid(made[:2], tail, version=2), 0, refused(11)
+
+
+def wide_inputs_refused():
+    """Check's refusals of version 2, before 11 and 6."""
+    rewritings = [pair[k] for pair in (next(pairs()), wide_pairs()["C1"]) for k in (0, 1)] + [b""]
+    damages = [d for d in of_version_2() if d[1][0]]
+    for k, (record, (number, offset)) in enumerate(damages[::9]):
+        yield record, rewritings[k % 5], (0, 3, HUGE)[k % 7 % 3], refused(number, offset)
+
+
 def cases():
     yield from stored()
     yield from foreign()
@@ -258,6 +308,9 @@ def cases():
     yield from others(record, own, made)
     yield from sizes()
     yield from inputs_refused()
+    yield from wide_stored()
+    yield from other_versions()
+    yield from wide_inputs_refused()
 
 
 def main():

@@ -2,6 +2,7 @@
 
 A text has one line per item, indices by name and blocks by number:
 
+    version 2                     ids have eight bytes; left out, version 1
     arg a int                     an argument
     name p ptr<ptr<int>>          any other name
     block                         starts a block; `block saves 1` in a rewriting
@@ -13,7 +14,7 @@ A text has one line per item, indices by name and blocks by number:
 """
 
 import struct
-from dataclasses import dataclass, field
+from dataclasses import dataclass, field, replace
 
 VALUE = {
     1: "add", 2: "sub", 3: "mul", 4: "div", 5: "eq", 6: "lt", 7: "gt",
@@ -33,6 +34,7 @@ CALLS = (20, 67)
 PHI = 39
 TARGETS = {64: 1, 65: 2}
 KINDS = ("int", "bool", "float", "char")
+ID_BYTES = {1: 4, 2: 8}  # of each version
 
 INT, BOOL, FLOAT, CHAR = range(4)
 POINTER = 0x10
@@ -61,6 +63,13 @@ class Function:
     nargs: int = 0
     names: list = field(default_factory=list)  # (type, text)
     blocks: list = field(default_factory=list)
+    version: int = 1
+
+
+def in_version(f, version, ids=lambda n: n):
+    """The function in a version, each id replaced by what `ids` gives of it."""
+    blocks = [Block([replace(i, id=ids(i.id)) for i in b.instrs], b.saves) for b in f.blocks]
+    return Function(f.nargs, f.names, blocks, version)
 
 
 def target_count(code, count):
@@ -70,8 +79,8 @@ def target_count(code, count):
 
 # Bytes
 
-def instr_bytes(i):
-    out = struct.pack(">IB", i.id, i.code)
+def instr_bytes(i, width):
+    out = i.id.to_bytes(width, "big") + bytes([i.code])
     if i.code == 0:
         return out + struct.pack(">HBQ", i.dest, i.kind, i.literal)
     if i.code in VALUE:
@@ -85,13 +94,13 @@ def instr_bytes(i):
 
 
 def to_bytes(f):
-    out = struct.pack(">BBH", 1, f.nargs, len(f.names))
+    out = struct.pack(">BBH", f.version, f.nargs, len(f.names))
     for type_, text in f.names:
         out += bytes([type_, len(text)]) + text.encode()
     out += struct.pack(">H", len(f.blocks))
     for b in f.blocks:
         out += struct.pack(">HH", len(b.instrs), b.saves)
-        out += b"".join(instr_bytes(i) for i in b.instrs)
+        out += b"".join(instr_bytes(i, ID_BYTES[f.version]) for i in b.instrs)
     return struct.pack(">I", len(out)) + out
 
 
@@ -110,8 +119,8 @@ class Cursor:
         return int.from_bytes(self.take(size), "big")
 
 
-def read_instr(c):
-    i = Instr(c.number(4), c.number(1))
+def read_instr(c, width):
+    i = Instr(c.number(width), c.number(1))
     if i.code == 0:
         i.dest, i.kind, i.literal = c.number(2), c.number(1), c.number(8)
         return i
@@ -130,15 +139,16 @@ def read_instr(c):
 def from_bytes(data):
     """Reads a well-formed record or rewriting; limits are check's."""
     c = Cursor(data)
-    if c.number(4) != len(data) - 4 or c.number(1) != 1:
+    length, version = c.number(4), c.number(1)
+    if length != len(data) - 4 or version not in ID_BYTES:
         raise ValueError("length or version")
-    f = Function(c.number(1))
+    f = Function(c.number(1), version=version)
     for _ in range(c.number(2)):
         type_ = c.number(1)
         f.names.append((type_, c.take(c.number(1)).decode()))
     for _ in range(c.number(2)):
         n, saves = c.number(2), c.number(2)
-        f.blocks.append(Block([read_instr(c) for _ in range(n)], saves))
+        f.blocks.append(Block([read_instr(c, ID_BYTES[version]) for _ in range(n)], saves))
     if c.at != len(data):
         raise ValueError("bytes left over")
     return f
@@ -180,7 +190,7 @@ def instr_text(f, i):
 
 
 def to_text(f):
-    lines = []
+    lines = ["version %d" % f.version] * (f.version != 1)
     for n, (type_, text) in enumerate(f.names):
         lines.append("%s %s %s" % ("arg" if n < f.nargs else "name", text,
                                    type_text(type_)))
@@ -216,7 +226,9 @@ def from_text(text):
         words = line.split()
         if not words:
             continue
-        if words[0] in ("arg", "name"):
+        if words[0] == "version":
+            f.version = int(words[1])
+        elif words[0] in ("arg", "name"):
             f.nargs += words[0] == "arg"
             f.names.append((type_byte(words[2]), words[1]))
         elif words[0] == "block":

@@ -1,6 +1,6 @@
 """Point 6 of document 02 as a program: a record is run on the plain machine.
 
-Written from document 01 ("The plain machine"), Points 4, 5 and 6 of document 02
+Written from document 01 ("The plain machine"), Points 4 to 7 of document 02
 and nothing else. A value is a tuple of its type byte and one word, of a pointer
 two; 04 stands for an int literal held by a float. A store is a list with a value
 or None for each name, a list of answers has values, GO_ON and HALT.
@@ -10,7 +10,7 @@ import struct
 
 from check import check
 from model import DIV, FOLD, ID, NOT, PTRADD
-from record import BOOL, CALLS, CHAR, FLOAT, INT, POINTER, from_bytes, signed, unsigned
+from record import BOOL, CALLS, CHAR, FLOAT, ID_BYTES, INT, POINTER, from_bytes, signed, unsigned
 
 HELD = 4
 NOTHING, GO_ON, HALT = 0xFF, 0xFE, 0xFD
@@ -187,10 +187,11 @@ def fits(f, i, answer):
     return has_type(answer, f.names[i.dest][0])
 
 
-def events_bytes(events):
+def events_bytes(events, width):
+    """The events, each id in so many bytes."""
     out = b""
     for id_, code, callee, args in events:
-        out += struct.pack(">IBHB", id_, code, callee, len(args)) + b"".join(map(value_bytes, args))
+        out += id_.to_bytes(width, "big") + struct.pack(">BHB", code, callee, len(args)) + b"".join(map(value_bytes, args))
     return out
 
 
@@ -214,7 +215,7 @@ def engine(record, store, answers, limit, events_room, store_room):
         m, ended = ran(record, store, answers, limit)
     except Unfit:
         return 13, (0, 0, 0, 0, 0), b"", b""
-    events, left = events_bytes(m.events), store_bytes(m.store)
+    events, left = events_bytes(m.events, ID_BYTES[m.f.version]), store_bytes(m.store)
     sizes = len(events), len(left)
     if events_room < sizes[0] or store_room < sizes[1]:
         return 14, (*sizes, 0, 0, 0), b"", b""

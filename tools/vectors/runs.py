@@ -3,9 +3,10 @@
 A line holds a record, a store and answers in hex (`-` for one without a byte), a
 limit, a number and five values in decimal, events and final store in hex (`-`
 for none). Of the calls made by hand the number, or how the run ended and after
-how many steps, is written beside each from the documents (calls_by_hand.py);
-running.py adds the bytes and is asked whether it agrees: unless it does, nothing
-is printed. The others are random ones of worlds.py, by running.py alone.
+how many steps, is written beside each from the documents (calls_by_hand.py, and
+wide_calls.py for version 2); running.py adds the bytes and is asked whether it
+agrees: unless it does, nothing is printed. The others are random ones of
+worlds.py, by running.py alone.
 
 Usage: runs.py > crates/replay_run/stdin
 """
@@ -14,10 +15,13 @@ import sys
 
 from calls_by_hand import by_hand
 from running import LIMIT, engine
+from wide_calls import by_hand_wide, in_version_2
 from worlds import calls
 
 SEED = 6
 RANDOM = 90
+WIDE_SEED = 7
+WIDE_RANDOM = 24
 MOST = {"record": 1024, "store": 512, "answers": 4096, "events": 16384, "list": 524288}
 AMPLE = 1 << 20
 
@@ -37,8 +41,8 @@ def line(call):
     return " ".join(map(str, words)), number, values
 
 
-def hand_lines():
-    for what, call, number, ended, steps in by_hand():
+def hand_lines(given):
+    for what, call, number, ended, steps in given:
         text, found, values = line(call)
         wanted = (number, steps, ended) if number == 0 else (number, 0, 0)
         got = found, values[2], values[3]
@@ -51,10 +55,10 @@ def small(call):
     return all(len(part) <= 200 for part in call[:3])
 
 
-def random_lines():
-    """As many that run as come to something else, of those that are small."""
-    left = {True: RANDOM * 3 // 4, False: RANDOM - RANDOM * 3 // 4}
-    for call in calls(SEED, 100 * RANDOM):
+def random_lines(given, count):
+    """So many of those that are small, of which a quarter do not run far."""
+    left = {True: count * 3 // 4, False: count - count * 3 // 4}
+    for call in given:
         text, number, values = line(call)
         ran = number == 0 and values[2] > 2 and (values[3] != LIMIT or values[2] > 20)
         if small(call) and len(text) < 1500 and left[ran]:
@@ -64,7 +68,10 @@ def random_lines():
 
 
 def main():
-    lines = [*hand_lines(), *random_lines()]
+    hand = list(by_hand())
+    wide = filter(None, map(in_version_2, calls(WIDE_SEED, 100 * WIDE_RANDOM)))
+    lines = [*hand_lines(hand), *random_lines(calls(SEED, 100 * RANDOM), RANDOM),
+             *hand_lines(by_hand_wide(hand)), *random_lines(wide, WIDE_RANDOM)]
     text = "".join(line + "\n" for line in lines)
     assert len(text) <= MOST["list"], len(text)
     assert len(set(lines)) == len(lines)

@@ -1,7 +1,8 @@
 """Makes a function of the text that view prints, or says what is wrong and in which line.
 
 One item stands in each line. A # with a word right behind it is read: `#7` (an
-id; left out, it is one more than the last, the first 1), `#saves 1`, `#names`.
+id; left out, it is one more than the last, the first 1), `#saves 1`, `#names`,
+and `#version 2` behind the `{` (left out, the version is 1).
 A # with a space behind it, and what follows `#7 `, is for people. Names that
 `#names` does not list follow in the order in which they are first assigned,
 those with a reserved text behind the others. Labels may have any text. Limits
@@ -13,7 +14,7 @@ import re
 import struct
 
 from check import COUNTS, RESERVED, TEXT
-from record import (BOOL, CALLS, CHAR, EFFECT_CODE, FLOAT, INT, PHI, TARGETS, VALUE_CODE, Block, Function, Instr,
+from record import (BOOL, CALLS, CHAR, EFFECT_CODE, FLOAT, ID_BYTES, INT, PHI, TARGETS, VALUE_CODE, Block, Function, Instr,
                     target_count, type_byte, type_text, unsigned)
 
 from reading import Fault, counted, is_scalar
@@ -25,7 +26,7 @@ INT_TEXT = re.compile(r"-?[0-9]{1,19}")
 FLOAT_TEXT = re.compile(r"-?(inf|[0-9]+\.[0-9]+(e[-+]?[0-9]+)?|[0-9]+e[-+]?[0-9]+)")
 BITS_TEXT = re.compile(r"0x[0-9a-f]{16}")
 CHAR_TEXT = re.compile(r"'(?:\\u\{([0-9a-f]{1,6})\}|(.))'")
-BYTE, WORD, LONG = (1 << 8) - 1, (1 << 16) - 1, (1 << 32) - 1
+BYTE, WORD = (1 << 8) - 1, (1 << 16) - 1
 
 
 def pieces(line):
@@ -42,7 +43,7 @@ def pieces(line):
 
 
 def number(text, most, what):
-    if not re.fullmatch("[0-9]{1,10}", text) or int(text) > most:
+    if not re.fullmatch("[0-9]{1,20}", text) or int(text) > most:
         raise Fault("%s is a number from 0 to %d, not %s" % (what, most, text or "nothing"))
     return int(text)
 
@@ -124,12 +125,23 @@ class Parser:
             self.name(self.listed, part[0], part[2])
 
     def header(self, code, mark):
-        if code[0][0] != "@" or code[1:2] != ["("] or code[-2:] != [")", "{"] or mark:
+        if code[0][0] != "@" or code[1:2] != ["("] or code[-2:] != [")", "{"]:
             raise Fault("@f(name: type, ...) { expected")
+        if mark:
+            self.version(mark)
         self.list_of_names(code[2:-2])
         if len(self.listed) > BYTE:
             raise Fault("more than %d arguments" % BYTE)
         self.f.nargs, self.place = len(self.listed), "inside"
+
+    def version(self, mark):
+        word, _, rest = mark.partition(" ")
+        if word != "version":
+            raise Fault("#%s is not known here" % word)
+        versions = {str(version): version for version in ID_BYTES}
+        if rest.strip() not in versions:
+            raise Fault("a version is 1 or 2, not %s" % (rest.strip() or "nothing"))
+        self.f.version = versions[rest.strip()]
 
     def names(self, mark):
         word, _, rest = mark.partition(" ")
@@ -150,7 +162,8 @@ class Parser:
         if code[-1] != ";":
             raise Fault("; expected at the end")
         words = code[:-1]
-        self.last_id = number(mark.split()[0] if mark else str(self.last_id + 1), LONG, "an id")
+        most = 256 ** ID_BYTES[self.f.version] - 1
+        self.last_id = number(mark.split()[0] if mark else str(self.last_id + 1), most, "an id of version %d" % self.f.version)
         dest = words[0] if words[1:2] == [":"] else None
         if dest is not None:
             words = self.assigned(words)

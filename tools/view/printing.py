@@ -1,10 +1,11 @@
 """The text of a function, and two functions side by side.
 
 The text is Bril's. What a record has beyond it stands behind a # and is a
-comment to Bril: `#7` is an instruction's id, `#7 save` marks a save and
-`.b0: #saves 1` is a block's saves field where it is not 0. `#names` lists names
-in the order of the record. Names that it does not list follow in the order in
-which they are first assigned, those with a reserved text behind the others.
+comment to Bril: `#version 2` behind the `{` is the version where it is not 1,
+`#7` is an instruction's id, `#7 save` marks a save and `.b0: #saves 1` is a
+block's saves field where it is not 0. `#names` lists names in the order of the
+record. Names that it does not list follow in the order in which they are first
+assigned, those with a reserved text behind the others.
 """
 
 import struct
@@ -66,7 +67,7 @@ def in_order(f):
 def head(f):
     """The lines before the first block."""
     names = [name_text(n) for n in f.names]
-    lines = ["@f(%s) {" % ", ".join(names[:f.nargs])]
+    lines = ["@f(%s) {%s" % (", ".join(names[:f.nargs]), " #version %d" % f.version if f.version != 1 else "")]
     listed = names[f.nargs:in_order(f)]
     for k in range(0, len(listed), NAMES_IN_LINE):
         lines.append("  #names " + ", ".join(listed[k:k + NAMES_IN_LINE]))
@@ -107,6 +108,8 @@ def pair_block(number, f, g):
 
 def pair(f, g):
     """The rows of an input and its rewriting; saves are told by a dest that the input does not have."""
+    if g.version != f.version:
+        raise Fault("not a rewriting, its version is %d and the input's %d" % (g.version, f.version))
     if g.nargs != f.nargs or g.names[:len(f.names)] != f.names or len(g.blocks) != len(f.blocks):
         raise Fault("not a rewriting, its arguments, first names or blocks are not the input's")
     rows = list(zip_longest(head(f), head(g), fillvalue=""))

@@ -11,7 +11,7 @@ import sys
 from pathlib import Path
 
 from check import COUNTS, TEXT
-from record import BOOL, CALLS, CHAR, Block, Function, Instr, target_count
+from record import BOOL, CALLS, CHAR, ID_BYTES, Block, Function, Instr, target_count
 
 
 REFUSAL = re.compile(rb"refused [0-9]+ at [0-9]+\n")
@@ -82,9 +82,10 @@ class Reader:
     def function(self):
         self.length()
         version = self.number(1, "version")
-        if version != 1:
-            self.fault("version %d, not 1" % version)
-        f = Function(self.number(1, "number of arguments"))
+        if version not in ID_BYTES:
+            self.fault("version %d, not 1 or 2" % version)
+        self.width = ID_BYTES[version]
+        f = Function(self.number(1, "number of arguments"), version=version)
         names = self.number(2, "number of names")
         if f.nargs > names:
             self.fault("%s, but %s" % (counted(names, "name"), counted(f.nargs, "argument")))
@@ -117,7 +118,7 @@ class Reader:
 
     def instr(self, names, blocks):
         at = self.at
-        i = Instr(self.number(4, "id"), self.number(1, "code"))
+        i = Instr(self.number(self.width, "id"), self.number(1, "code"))
         i.at = at  # where it stands, for messages
         if i.code not in COUNTS:
             self.fault("unknown code %d" % i.code)

@@ -6,10 +6,21 @@ use bril_rs::{Argument, ConstOps, EffectOps, Function, Instruction, Literal, Typ
 use cfg::BasicBlock;
 
 pub struct Record {
+    /// 1 or 2; the Rust's ids are u64, wide enough for both.
+    pub version: u8,
     /// Type byte and text of each name.
     pub names: Vec<(u8, String)>,
     pub function: Function,
     pub blocks: Vec<BasicBlock>,
+}
+
+/// How many bytes an id has in a record of a version.
+pub fn id_bytes(version: u8) -> Option<usize> {
+    match version {
+        1 => Some(4),
+        2 => Some(8),
+        _ => None,
+    }
 }
 
 struct Reader<'a> {
@@ -63,9 +74,13 @@ fn numbers(r: &mut Reader, count: usize) -> Option<Vec<String>> {
     (0..count).map(|_| r.number(2).map(|n| n.to_string())).collect()
 }
 
-fn instruction(r: &mut Reader, names: &[(u8, String)]) -> Option<(u64, Instruction)> {
+fn instruction(
+    r: &mut Reader,
+    width: usize,
+    names: &[(u8, String)],
+) -> Option<(u64, Instruction)> {
     let name = |n: usize| names.get(n).map(|(_, text)| text.clone());
-    let id = r.number(4)?;
+    let id = r.number(width)?;
     let code = r.byte()?;
     let value_op = ops::op(&VALUES, code);
     let mut dest = None;
@@ -104,9 +119,11 @@ fn instruction(r: &mut Reader, names: &[(u8, String)]) -> Option<(u64, Instructi
 
 pub fn read(src: &[u8]) -> Option<Record> {
     let mut r = Reader { src, at: 0 };
-    if r.count(4)? != src.len() - 4 || r.byte()? != 1 {
+    if r.count(4)? != src.len() - 4 {
         return None;
     }
+    let version = r.byte()?;
+    let width = id_bytes(version)?;
     let arg_count = r.count(1)?;
     let mut names = vec![];
     for _ in 0..r.count(2)? {
@@ -121,7 +138,7 @@ pub fn read(src: &[u8]) -> Option<Record> {
         r.number(2)?; // saves
         let mut block = BasicBlock::default();
         for i in 0..n {
-            let instr = instruction(&mut r, &names)?;
+            let instr = instruction(&mut r, width, &names)?;
             if !cfg::is_terminator(&instr.1) {
                 block.instrs.push(instr);
             } else if i + 1 == n {
@@ -142,5 +159,5 @@ pub fn read(src: &[u8]) -> Option<Record> {
         .collect::<Option<Vec<_>>>()?;
     let name = "f".to_string();
     let function = Function { args, instrs: vec![], name, pos: None, return_type: None };
-    Some(Record { names, function, blocks })
+    Some(Record { version, names, function, blocks })
 }

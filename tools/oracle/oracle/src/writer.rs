@@ -1,7 +1,7 @@
 //! The Rust's blocks as the record of a rewriting.
 
 use crate::ops::{self, CONST, EFFECTS, VALUES};
-use crate::reader::Record;
+use crate::reader::{id_bytes, Record};
 use bril_rs::{Instruction, Literal, Type};
 use cfg::BasicBlock;
 use std::collections::HashMap;
@@ -61,12 +61,16 @@ fn put_literal(out: &mut Vec<u8>, value: &Literal) {
     out.extend(bits.to_be_bytes());
 }
 
-fn put_instruction(
-    out: &mut Vec<u8>,
-    (id, instr): &(u64, Instruction),
-    names: &Names,
-) -> Option<()> {
-    out.extend(u32::try_from(*id).ok()?.to_be_bytes());
+/// The id in so many bytes; nothing where it has more.
+fn put_id(out: &mut Vec<u8>, width: usize, id: u64) -> Option<()> {
+    let bytes = id.to_be_bytes();
+    let (high, low) = bytes.split_at(bytes.len() - width);
+    out.extend(low);
+    high.iter().all(|b| *b == 0).then_some(())
+}
+
+/// The instruction behind its id.
+fn put_instruction(out: &mut Vec<u8>, instr: &Instruction, names: &Names) -> Option<()> {
     let (args, funcs, labels) = match instr {
         Instruction::Constant { dest, value, .. } => {
             out.push(CONST);
@@ -94,16 +98,22 @@ fn put_instruction(
     Some(())
 }
 
-fn put_block(out: &mut Vec<u8>, block: &BasicBlock, names: &mut Names) -> Option<()> {
+fn put_block(
+    out: &mut Vec<u8>,
+    width: usize,
+    block: &BasicBlock,
+    names: &mut Names,
+) -> Option<()> {
     let mut saves = 0;
     let mut body = vec![];
     let instrs = || block.instrs.iter().chain(&block.terminator);
-    for pair in instrs() {
-        names.make(&pair.1)?;
-        if let Some(dest) = pair.1.get_dest() {
+    for (id, instr) in instrs() {
+        names.make(instr)?;
+        if let Some(dest) = instr.get_dest() {
             saves += usize::from(names.index[&dest] >= names.original);
         }
-        put_instruction(&mut body, pair, names)?;
+        put_id(&mut body, width, *id)?;
+        put_instruction(&mut body, instr, names)?;
     }
     put_count(out, instrs().count())?;
     put_count(out, saves)?;
@@ -117,11 +127,12 @@ pub fn write(record: &Record) -> Option<Vec<u8>> {
         index: record.names.iter().enumerate().map(|(i, n)| (n.1.clone(), i)).collect(),
         original: record.names.len(),
     };
+    let width = id_bytes(record.version)?;
     let mut blocks = vec![];
     for block in &record.blocks {
-        put_block(&mut blocks, block, &mut names)?;
+        put_block(&mut blocks, width, block, &mut names)?;
     }
-    let mut body = vec![1, u8::try_from(record.function.args.len()).ok()?];
+    let mut body = vec![record.version, u8::try_from(record.function.args.len()).ok()?];
     put_count(&mut body, names.list.len())?;
     for (type_byte, text) in &names.list {
         body.push(*type_byte);
