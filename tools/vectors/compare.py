@@ -5,8 +5,10 @@ compare.py --random N [--seed S]   the Rust against model.py on N random records
 compare.py --divisions N [--seed S]   the same on N random records of divisions
 compare.py --phis N [--seed S]   the same on N random records of phis
 compare.py --exhaustive        the same on all small records of exhaustive.py
-On a record without gt and ge the unaltered Rust must answer the same. The last
-line is `N passed, M failed`.
+compare.py --version 2 ...     with those in version 2, every second with other ids
+On a record without gt and ge the unaltered Rust must answer the same. Of a
+record of version 2 whose ids fit version 1 the Rust's answer, narrowed, must be
+that to the record narrowed. The last line is `N passed, M failed`.
 """
 
 import argparse
@@ -18,9 +20,9 @@ from pathlib import Path
 
 from check import check
 from exhaustive import comparisons, operations, phis as small_phis, short_blocks
-from generate import divisions, phis, records
+from generate import WIDE, divisions, of_version, phis, records
 from model import GE, GT, Model, rewrite
-from record import from_bytes, to_bytes, to_text
+from record import from_bytes, in_version, to_bytes, to_text
 
 TOP = Path(__file__).resolve().parents[2]
 ORACLE = TOP / "tools/oracle"
@@ -61,15 +63,40 @@ def both(inputs):
             for n, answer in enumerate(oracle(inputs))]
 
 
+def narrow_ids(data):
+    """Whether a record of version 2 has only ids that version 1 has too."""
+    f = from_bytes(data)
+    return f.version == 2 and all(i.id < WIDE for b in f.blocks for i in b.instrs)
+
+
+def narrowed(data):
+    """A record of version 2, or its rewriting, in version 1."""
+    return to_bytes(in_version(from_bytes(data), 1))
+
+
+def by_narrowing(inputs, answers):
+    """For each record of version 2 with narrow ids whether the Rust's answer to it, narrowed, is that to the
+    record narrowed; both in hex."""
+    fit = [n for n, record in enumerate(inputs) if narrow_ids(bytes.fromhex(record))]
+    again = oracle([narrowed(bytes.fromhex(inputs[n])).hex() for n in fit])
+    return {inputs[n]: other == (answers[n] if answers[n] == "panic" else narrowed(bytes.fromhex(answers[n])).hex())
+            for n, other in zip(fit, again)}
+
+
 def say_asked(count):
     print("%d records without gt and ge: the unaltered Rust was asked for them too" % count)
 
 
+def say_narrowed(count):
+    print("%d records of version 2 whose ids fit version 1: compared by narrowing too" % count)
+
+
 def cases():
     """Label, record and answer of each stored record."""
-    for name in ("worked.txt", "phis.txt"):
+    for name in ("worked.txt", "phis.txt", "wide.txt"):
         for line in (TOP / "vectors" / name).read_text().splitlines():
-            yield line.split(" ", 2)
+            label, *rest = line.split(" ", 2)
+            yield [label + " in version 2" * (name == "wide.txt"), *rest]
     for name in ("rewritings.txt", "quotients.txt"):
         for n, line in enumerate((TOP / "vectors" / name).read_text().splitlines(), 1):
             yield ["%s:%d" % (name, n), *line.split(" ", 1)]
@@ -82,14 +109,16 @@ def stored():
     are compared with the model alone, as all others are too."""
     asked = [c for c in cases() if not c[2].startswith("refused")]
     answers = dict(zip((c[0] for c in asked), both([c[1] for c in asked])))
+    narrow = by_narrowing([c[1] for c in asked], [answers[c[0]][0] for c in asked])
     say_asked(sum(same is not None for _, same in answers.values()))
+    say_narrowed(len(narrow))
     for label, record, out in cases():
         by_model = rewrite(bytes.fromhex(record))
         agree = out == (by_model if isinstance(by_model, str) else by_model.hex())
         if label in answers:
             answer, same = answers[label]
-            panics = label == "C7" or label.startswith("quotients.txt")
-            agree = agree and answer == ("panic" if panics else out) and same is not False
+            panics = label.split()[0] == "C7" or label.startswith("quotients")
+            agree = agree and answer == ("panic" if panics else out) and same is not False and narrow.get(record, True)
         yield label, agree
 
 
@@ -109,12 +138,16 @@ def against_model(items):
     of -2^63 by -1."""
     counts, smallest = Counter(), None
     for part in parts(items):
-        for record, (answer, same) in zip(part, both([r.hex() for r in part])):
+        inputs = [r.hex() for r in part]
+        answers = both(inputs)
+        narrow = by_narrowing(inputs, [answer for answer, _ in answers])
+        counts["narrow"] += len(narrow)
+        for record, (answer, same) in zip(part, answers):
             model = Model(from_bytes(record))
             expected = to_bytes(model.rewrite()).hex()
             agree = check(record) is None and answer == ("panic" if model.panics else expected)
             counts["asked"] += same is not None
-            if agree and same is not False:
+            if agree and same is not False and narrow.get(record.hex(), True):
                 counts["panic" if model.panics else "same"] += 1
                 counts["least"] += model.seen["div wraps"] > 0
                 continue
@@ -122,6 +155,8 @@ def against_model(items):
             if smallest is None or len(record) < len(smallest[0]):
                 smallest = record, expected, answer, same
     say_asked(counts["asked"])
+    if counts["narrow"]:
+        say_narrowed(counts["narrow"])
     if smallest:
         print(smallest[0].hex(), to_text(from_bytes(smallest[0])), sep="\n")
         print("model", smallest[1], "Rust ", smallest[2], sep="\n")
@@ -139,17 +174,18 @@ def main():
     p.add_argument("--phis", type=int)
     p.add_argument("--seed", type=int, default=1)
     p.add_argument("--exhaustive", action="store_true")
+    p.add_argument("--version", type=int, choices=[1, 2], default=1)
     a = p.parse_args()
     build()
     if a.random is not None:
-        passed, failed = against_model(records(a.seed, a.random))
+        passed, failed = against_model(of_version(a.version, records(a.seed, a.random)))
     elif a.divisions is not None:
-        passed, failed = against_model(divisions(a.seed, a.divisions))
+        passed, failed = against_model(of_version(a.version, divisions(a.seed, a.divisions)))
     elif a.phis is not None:
-        passed, failed = against_model(phis(a.seed, a.phis))
+        passed, failed = against_model(of_version(a.version, phis(a.seed, a.phis)))
     elif a.exhaustive:
         families = operations(), short_blocks(), comparisons(), small_phis()
-        passed, failed = map(sum, zip(*map(against_model, families)))
+        passed, failed = map(sum, zip(*(against_model(of_version(a.version, f)) for f in families)))
     else:
         results = list(stored())
         for label, agree in results:

@@ -5,6 +5,7 @@ needed, with more, and with a byte too little of either.
 compare_runs.py [--seed S] [--count N]   N calls, 10000 if not given
 compare_runs.py --forms                  all calls with one item that begins with any byte
 compare_runs.py --list FILE              those of a stored list such as crates/replay_run/stdin
+compare_runs.py --version 2 ...          with the records in version 2 and other ids
 
 The library is the one that bindings/python loads. Of the
 calls that differ the smallest is printed; the last line is `N the same, M differ`.
@@ -17,6 +18,7 @@ from collections import Counter
 from pathlib import Path
 
 from running import engine
+from wide_calls import in_version_2
 from worlds import calls, forms
 
 TOP = Path(__file__).resolve().parents[2]
@@ -88,9 +90,12 @@ def main():
     p.add_argument("--count", type=int, default=10000)
     p.add_argument("--forms", action="store_true")
     p.add_argument("--list", type=Path)
+    p.add_argument("--version", type=int, choices=[1, 2], default=1)
     a = p.parse_args()
     library, counts, same, differ, smallest = Library(), Counter(), 0, 0, None
     given = stored(a.list) if a.list else forms() if a.forms else calls(a.seed, a.count)
+    if a.version == 2:
+        given = filter(None, map(in_version_2, given))
     for turn, call in enumerate(given):
         what = differs(library, call, turn, counts)
         same, differ = same + (what is None), differ + (what is not None)

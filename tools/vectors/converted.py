@@ -14,11 +14,12 @@ import sys
 from pathlib import Path
 
 from convert import convert
-from damaged import FUNCTION, PHIS, Record, fields_of
+from damaged import FUNCTION, PHIS
+from damages import Record, fields_of
+from generate import WIDE
 from record import Block, Function, Instr, from_bytes, from_text, in_version, to_bytes
 
 TOP = Path(__file__).resolve().parents[2]
-WIDE = 1 << 32
 MOST = WIDE * WIDE - 1
 AMPLE = 1 << 20
 RECORD = 4096  # replay_lines::RECORD
@@ -119,7 +120,7 @@ def wide_ids():
 
 def empty():
     """No block, and empty ones; 64 blocks of which the last has a wide id."""
-    for count in (0, 1, 2, 64):
+    for count in (0, 2, 64):
         yield from all_four(*(to_bytes(Function(0, [], [Block([])] * count, version)) for version in (1, 2)))
     last = Function(0, [], [Block([])] * 63 + [Block([Instr(WIDE, 69)])], 2)
     yield from too_wide(to_bytes(last), 10 + 64 * 4)

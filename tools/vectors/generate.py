@@ -1,6 +1,7 @@
-"""Random accepted records, the same for the same seed.
+"""Random accepted records, the same for the same seed; in version 2 they are those
+of version 1, every second with other ids.
 
-Usage: generate.py [--seed S] [--count N] [--limits | --divisions | --phis]   a record in hex per line
+Usage: generate.py [--seed S] [--count N] [--limits | --divisions | --phis] [--version 2]   a record in hex per line
 """
 
 import argparse
@@ -8,7 +9,7 @@ import random
 
 from check import COUNTS, FIXED, check
 from record import (BOOL, CHAR, FLOAT, INT, PHI, POINTER, Block, Function, Instr,
-                    to_bytes, unsigned)
+                    from_bytes, in_version, to_bytes, unsigned)
 
 SMALL = [0, 0, 0, 1, 1, 1, 2, 2, -1]
 INTS = [3, 7, -7, -2, 1 << 32, (1 << 62) + 1, (1 << 63) - 1, -(1 << 63), 1 - (1 << 63)]
@@ -19,6 +20,8 @@ CHARS = [0, 0x61, 0x7F, 0xD7FF, 0xE000, 0xFFFF, 0x10FFFF]
 ODD_TEXTS = [".", "_", "_.", "__lvn0", "_lvn0", "x_lvn0", "_x_lvn", "_x_lvn0_", "lvn", "A.b_9",
              "x" * 32, "_" + "y" * 31]
 IDS = [0, 1, 2, 3, 5, 9, 255, 256, 65536, 0xFFFFFFFF]
+WIDE = 1 << 32  # the least id that version 1 has no room for
+WIDE_IDS = [WIDE - 1, WIDE, WIDE * WIDE - 1, 1 << 63, WIDE + 1, 0xFF << 56, WIDE * WIDE - WIDE]
 
 # Types a record's names are drawn from, and the codes it prefers.
 INT_CODES = [0, 0, 0, 0, *range(1, 10), 1, 1, 3, 3, 3, 4, 13, 68]
@@ -262,6 +265,20 @@ def limits(seed):
         yield accepted(f)
 
 
+def new_ids(f):
+    """What each id becomes: in the order in which they come those above, then others above 2^32."""
+    found = dict.fromkeys(i.id for b in f.blocks for i in b.instrs)
+    return dict(zip(found, WIDE_IDS + [WIDE * (n + 1) + n for n in range(len(found))]))
+
+
+def of_version(version, given):
+    """Records of version 1, in version 2 if that is wanted."""
+    for n, record in enumerate(given):
+        f = from_bytes(record)
+        ids = new_ids(f).get if n % 2 else lambda id_: id_
+        yield record if version == 1 else accepted(in_version(f, 2, ids))
+
+
 def main():
     p = argparse.ArgumentParser()
     p.add_argument("--seed", type=int, default=1)
@@ -269,9 +286,10 @@ def main():
     p.add_argument("--limits", action="store_true")
     p.add_argument("--divisions", action="store_true")
     p.add_argument("--phis", action="store_true")
+    p.add_argument("--version", type=int, choices=[1, 2], default=1)
     a = p.parse_args()
     made = divisions if a.divisions else phis if a.phis else records
-    for record in limits(a.seed) if a.limits else made(a.seed, a.count):
+    for record in of_version(a.version, limits(a.seed) if a.limits else made(a.seed, a.count)):
         print(record.hex())
 
 

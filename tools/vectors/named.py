@@ -17,8 +17,8 @@ import sys
 from pathlib import Path
 
 from check import check
-from damaged import (Record, cuts, field_damages, fields_of, first_damages, more_damages, of_version_2, text_damages,
-                     type_damages)
+from damaged import of_version_2
+from damages import Record, cuts, field_damages, fields_of, first_damages, more_damages, text_damages, type_damages
 from record import from_bytes, from_text
 
 VECTORS = Path(__file__).resolve().parents[2] / "vectors"

@@ -1,5 +1,5 @@
 """Records that check refuses, with number and offset, and near ones that it
-accepts, worked out from document 01 and from Point 5 of document 02. The last
+accepts, worked out from document 01 and from Points 5 and 7 of document 02. The last
 line is `N passed, M failed`.
 """
 
@@ -11,12 +11,16 @@ from check import check
 ONE = "01 00 0001 00 01 78 0001 0001 0000"
 # Names p: ptr<int>, x: int.
 TWO = "01 00 0002 10 01 70 00 01 78 0001 0001 0000"
+# In version 2 one int name x; a block of one instruction, or of two.
+ONE_OF_2 = "02 00 0001 00 01 78 0001 0001 0000"
+TWO_OF_2 = "02 00 0001 00 01 78 0001 0002 0000"
 LIT = "0000000000000000"
 
 # Everything behind L, which is put in front; and the answer.
 CASES = [
     ("", (1, 4)),
-    ("02", (2, 4)),
+    ("00", (2, 4)),
+    ("03", (2, 4)),
     ("01", (1, 5)),
     ("01 11", (3, 5)),
     ("01 00 00", (1, 6)),
@@ -91,6 +95,25 @@ CASES = [
     (TWO + "00000007 27 0001 02 0001 0000 0000 0000", (7, 20)),
     (TWO + "00000007 27 0001 02 0001 0000 0000 0001", (6, 34)),
     (TWO + "00000007 27 0001 01 0000 0000 00", (1, 32)),
+    ("02", (1, 5)),
+    ("02 00 0000 0000", None),
+    ("02 00 0000 0001 0001 0000 00000007", (1, 14)),
+    ("02 00 0000 0001 0001 0000 00000007 45 00", (1, 14)),
+    ("02 00 0000 0001 0001 0000 00000000000007", (1, 14)),
+    ("02 00 0000 0001 0001 0000 0000000000000007", (1, 22)),
+    ("02 00 0000 0001 0001 0000 0000000000000007 28", (5, 22)),
+    ("02 00 0000 0001 0001 0000 0000000000000007 45 00", None),
+    ("02 00 0000 0001 0001 0000 FFFFFFFFFFFFFFFF 45 00", None),
+    ("01 00 0000 0001 0001 0000 0000000000000007 45 00", (6, 19)),
+    (ONE_OF_2 + "0000000100000000 00 0000 00" + LIT, None),
+    (ONE_OF_2 + "0000000100000000 00 0001", (6, 26)),
+    (ONE_OF_2 + "0000000100000000 00 0000 04", (3, 28)),
+    (ONE_OF_2 + "0000000100000000 00 0000 02" + LIT, (7, 17)),
+    (ONE_OF_2 + "0000000100000000 00 0000 00" + LIT + "00", (1, 37)),
+    (TWO_OF_2 + "FFFFFFFFFFFFFFFF 45 00 0000000100000000 05 0000 02 0000 0000", (7, 27)),
+    (TWO_OF_2 + "FFFFFFFFFFFFFFFF 45 00 0000000100000000 01 0000 02 0000 0000", None),
+    (TWO_OF_2 + "FFFFFFFFFFFFFFFF 40 00 0000 0000000100000000 45 00", (8, 25)),
+    (TWO_OF_2 + "FFFFFFFFFFFFFFFF 45 00 0000000100000000 01 0000 02 0001 0000", (6, 39)),
 ]
 
 # Texts of a name, and whether they pass.

@@ -10,21 +10,14 @@ Usage: wide.py > vectors/wide.txt
 import sys
 from pathlib import Path
 
+from generate import new_ids
 from model import rewrite
 from record import from_bytes, in_version, to_bytes
 
 VECTORS = Path(__file__).resolve().parents[2] / "vectors"
-WIDE = 1 << 32
-EDGES = [WIDE - 1, WIDE, 2 * (1 << 63) - 1, 1 << 63, WIDE + 1, 0xFF << 56, WIDE * WIDE - WIDE]
 PHIS = ("phi", "own", "types")
 EVERY = {"rewritings.txt": 9, "quotients.txt": 20}  # one line of so many
 LONGEST = 180  # bytes of the records that are taken
-
-
-def new_ids(f):
-    """What each id becomes: in the order in which they come, those at the edges, then others above 2^32."""
-    found = dict.fromkeys(i.id for b in f.blocks for i in b.instrs)
-    return dict(zip(found, EDGES + [WIDE * (n + 1) + n for n in range(len(found))]))
 
 
 def worked():

@@ -5,9 +5,9 @@ other ids: they come to the same.
 
 from calls_by_hand import FINE, FOREVER, FRAME, GIVEN, NAMES, SET, b, done, i, refused
 from check import check
+from generate import WIDE, new_ids
 from record import from_bytes, from_text, in_version, to_bytes
 from running import DIVISION, END, GO_ON, HALT, HALTED, LIMIT, RET, UNSET, answers_bytes, store_bytes
-from wide import WIDE, new_ids
 
 TOP = WIDE * WIDE - 1
 IDS = (7, WIDE - 1, WIDE, WIDE + 7, 1 << 63, TOP)
