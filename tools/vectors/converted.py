@@ -13,7 +13,7 @@ value of the refusal.
 import sys
 from pathlib import Path
 
-from convert import convert
+from convert import narrow, widen
 from damaged import FUNCTION, PHIS
 from damages import Record, fields_of
 from generate import WIDE
@@ -171,7 +171,8 @@ def main():
         assert max(len(record), len(out)) <= RECORD
         counts[number] = counts.get(number, 0) + 1
         print(record.hex(), version, number, value, out.hex())
-        answers = [convert(record, version, room) for room in (AMPLE, len(out), len(out) - 1 if out else 0)]
+        reading = {1: narrow, 2: widen}[version]
+        answers = [reading(record, room) for room in (AMPLE, len(out), len(out) - 1 if out else 0)]
         short = (9, len(out), b"") if out else (number, value, b"")
         if answers != [(number, value, out), (number, value, out), short]:
             wrong += 1
