@@ -42,7 +42,8 @@ impl Source<'_> {
         requires { at + 7 < places }
         ensures { result ≡ ltb (num_at self.entry.reads.now at self.entry.from) (256 ^ self.entry.to) }
     {
-        self.to == 8 || read_instrs::read_id(self.reads, at, self.from) < 1 << 32
+        let id = read_instrs::read_id(self.reads, at, self.from);
+        self.to == 8 || id < 1 << 32
     }
 
     // Of n instructions from a place on, the place of the first whose id has no room; else the place behind them.
