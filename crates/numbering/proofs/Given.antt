@@ -105,7 +105,7 @@ see_at_numbers : (s : State) (x : NameIx) (o : Option ValNum) → Numbers s → 
 see_at_numbers s x none h = new_numbers s x none h
 see_at_numbers s x (some v) h = h
 
-gen_numbers : (s : State) (xs : List NameIx) → Numbers s → Numbers (gen_new_vals s xs)
+pub gen_numbers : (s : State) (xs : List NameIx) → Numbers s → Numbers (gen_new_vals s xs)
 unfolding gen_new_vals see
 gen_numbers s [] h = h
 gen_numbers s (x ∷ xs) h = gen_numbers (see s x) xs (see_at_numbers s x (s.env x) h)

@@ -23,3 +23,4 @@ pub mod NoGreater
 pub mod Shared
 pub mod Quotient
 pub mod Phi
+pub mod Versions

@@ -63,7 +63,7 @@ module _ (s : List ℕ) (b : Bytes s) (r : Record Placed) (p : ℕ) (e : accept 
   unfolding rewritten_bytes
   accepted_bytes = rewriting_bytes (plain r) accepted_ok (read_ranged limits s b r p reads)
 
-  -- at most eight bytes are written for each byte read
+  -- at most eight bytes are written for each byte read, in either version
   pub accepted_size : length (rewritten_bytes r) ≤ 8 * length s
   unfolding rewritten_bytes
   accepted_size =

@@ -37,8 +37,8 @@ inputs =
     hex "00000025 01 00 0001 000178 0001 0002 0000 00000001 44 01 0000 00000002 00 0000 00 0000000000000001" ∷
     []
 
--- C1 to C12 hold together
-pub worked : map written inputs ≡
+abbrev pub outputs : List (List ℕ)
+outputs =
     -- C1
     hex "0000003C 01 02 0004 000161 000162 000178 00075F785F6C766E30 0001 0003 0001 00000007 01 0002 02 0000 0001 00000008 0D 0003 01 0002 00000008 0D 0002 01 0003" ∷
     -- C2
@@ -64,6 +64,9 @@ pub worked : map written inputs ≡
     -- C12
     hex "00000038 01 00 0002 000178 00075F785F6C766E30 0001 0003 0001 00000001 44 01 0000 00000002 0D 0001 01 0000 00000002 00 0000 00 0000000000000001" ∷
     []
+
+-- C1 to C12 hold together
+pub worked : map written inputs ≡ outputs
 unfolding all_of_numbering
 worked = refl
 
@@ -78,7 +81,8 @@ further_inputs =
     hex "00000041 01 00 0001 000178 0002 0002 0000 00000001 44 01 0000 00000002 00 0000 00 0000000000000001 0002 0000 00000003 44 01 0000 00000004 00 0000 00 0000000000000002" ∷
     []
 
-pub worked_further : map written further_inputs ≡
+abbrev pub further_outputs : List (List ℕ)
+further_outputs =
     -- C13
     hex "0000001D 01 00 0001 000178 0001 0001 0000 00000001 00 0000 00 0000000000000001" ∷
     -- C14
@@ -86,5 +90,7 @@ pub worked_further : map written further_inputs ≡
     -- C15
     hex "00000067 01 00 0003 000178 00075F785F6C766E30 00075F785F6C766E31 0002 0003 0001 00000001 44 01 0000 00000002 0D 0001 01 0000 00000002 00 0000 00 0000000000000001 0003 0001 00000003 44 01 0000 00000004 0D 0002 01 0000 00000004 00 0000 00 0000000000000002" ∷
     []
+
+pub worked_further : map written further_inputs ≡ further_outputs
 unfolding all_of_numbering
 worked_further = refl

@@ -2,9 +2,11 @@
 use Rattle.std.specs.Prelude.{ℕ, ◌≡◌, refl, List, [], ◌∷◌, ◌++◌, map, replicate}
 use Rattle.record.specs.Answer.{Returned}
 use Rattle.record.specs.Hex.{hex}
+use Rattle.record.specs.Record.{limits}
 use Rattle.record.specs.Samples.{loop, walk}
 use Rattle.numbering.specs.Figures.{figures_answer, figures, figures_leaves}
 use Rattle.numbering.specs.Examples.{inputs, further_inputs}
+use Rattle.numbering.specs.Wider.{wider}
 use Rattle.numbering.specs.Entries.{smallest, version_3}
 use Rattle.numbering.specs.Opened.{all_of_numbering}
 
@@ -51,6 +53,30 @@ pub worked_figures : map (given 3) (inputs ++ further_inputs) ≡
     []
 unfolding all_of_numbering
 worked_figures = refl
+
+-- and in version 2: four bytes more for each instruction that is written
+pub wider_figures : map (λ s. given 3 (wider limits s)) (inputs ++ further_inputs) ≡
+    -- C1 to C5
+    counted 76 1 (3 ∷ []) 2 ∷
+    counted 80 1 (3 ∷ []) 2 ∷
+    counted 57 0 (2 ∷ []) 2 ∷
+    counted 77 0 (3 ∷ []) 2 ∷
+    counted 115 1 (5 ∷ []) 2 ∷
+    -- C6 to C10
+    counted 83 0 (3 ∷ []) 2 ∷
+    counted 79 0 (3 ∷ []) 2 ∷
+    counted 79 0 (3 ∷ []) 2 ∷
+    counted 43 0 (1 ∷ []) 2 ∷
+    counted 83 0 (3 ∷ []) 2 ∷
+    -- C11 to C15
+    counted 14 0 (0 ∷ []) 2 ∷
+    counted 72 1 (3 ∷ []) 2 ∷
+    counted 37 0 (1 ∷ []) 2 ∷
+    counted 51 0 (2 ∷ []) 2 ∷
+    counted 131 2 (3 ∷ 3 ∷ []) 1 ∷
+    []
+unfolding all_of_numbering
+wider_figures = refl
 
 -- an empty block, and one with a bool in an int: 7 at byte 21
 abbrev pub bool_in_int : List ℕ

@@ -17,6 +17,7 @@ pub mod Turns
 pub mod Swapped
 pub mod Quotients
 pub mod Phis
+pub mod Wider
 pub mod Entries
 pub mod Foreseen
 pub mod Parts

@@ -153,3 +153,18 @@ pub input_refused :
     []
 unfolding all_of_numbering
 input_refused = refl
+
+-- either version, and "its version is not the input's"
+abbrev pub two_wide : String
+two_wide = "0000000D 02 00 0002 00 01 61 00 02 6262 0000"
+
+abbrev pub three_wide : String
+three_wide = "00000013 02 00 0003 00 01 61 00 01 63 00 05 6D61646530 0000"
+
+pub either_version :
+    asked
+    ((two_wide, (three_wide, 1)) ∷ (two_wide, (three_wide, 2)) ∷ (two_wide, (three_wide, 3)) ∷
+    (two_wide, (three, 1)) ∷ (two, (three_wide, 2)) ∷ (two_wide, ("00000004 03 00 0002", 0)) ∷ []) ≡
+    of_input 13 2 "6262" ∷ of_rewriting 16 5 "6D61646530" ∷ refused 6 0 ∷ refused 11 0 ∷ refused 11 0 ∷ refused 11 0 ∷ []
+unfolding all_of_numbering
+either_version = refl

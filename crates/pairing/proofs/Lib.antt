@@ -34,4 +34,5 @@ pub mod Continued
 pub mod Resumed
 pub mod Theorems
 pub mod TheoremsRunning
+pub mod TheoremsVersions
 pub mod Contract

@@ -1,7 +1,7 @@
 -- Start here: what is proved of an accepted record and its rewriting, each theorem with its sentence.
 -- The statements are in specs/Demand.antt, and in numbering's specs/Ways.antt for demand 1 and specs/Ahead.antt for the figures; this file
 -- puts together what the other files prove. What the contracts of rewrite and figures come to is in Contract.antt; what is proved of running
--- an accession (document 02, Point 6) is in TheoremsRunning.antt.
+-- an accession (document 02, Point 6) is in TheoremsRunning.antt, and of widening and narrowing (Point 7) in TheoremsVersions.antt.
 use Prim.Native.Nat.{ℕ, suc, ◌<◌, ◌≤◌}
 use mathlib.Core.Path.{◌≡◌, refl, sym, ap, ◌∙◌, subst}
 use mathlib.Core.Logic.{◌≢◌, ◌↔◌, ◌⊎◌}
@@ -60,7 +60,8 @@ use Rattle.numbering.proofs.Greater.{greater_is_less, greater_equal_is_less_equa
 use Rattle.numbering.proofs.NoGreater.{none_greater}
 use Rattle.numbering.proofs.Shared.{shared_number}
 use Rattle.numbering.proofs.Quotient.{quotient_simplified, stays_by_zero, quotient_is_constant}
-use Rattle.numbering.proofs.Phi.{phi_kept, phi_new}
+use Rattle.numbering.proofs.Given.{Numbers}
+use Rattle.numbering.proofs.Phi.{phi_kept, phi_above}
 use Rattle.machine.specs.Machine.{Store, Context, plain_machine, Answer, at_unset, at_division, Mach, goes, ends, tick, assign, read_all, event_of, answered, step, stopped, run}
 use Rattle.machine.specs.Reached.{read_no_unset}
 use Rattle.pairing.specs.Demand.{shown, stop, Agree, TypedStore, Starts, RunAlike, SavesBounded, All}
@@ -127,7 +128,7 @@ is_its_bytes s r a = accept_from limits s a.bytes r a.end a.accepted
 good : (s : List ℕ) (r : Record Placed) → Accepted s r → RecordOk limits (plain r)
 good s r a = read_ok limits s r a.end (accept_typed limits s r a.end a.accepted).reads
 
--- 65,536 bytes suffice for the rewriting of an input of at most 8,192.
+-- 65,536 bytes suffice for the rewriting of an input of at most 8,192, of either version.
 pub buffer_is_enough :
     (s : List ℕ) (r : Record Placed) → Accepted s r → length s ≤ most_input → length (rewritten_bytes r) ≤ buffer_size
 unfolding rewritten_bytes
@@ -375,12 +376,14 @@ pub phi_is_kept :
     (instr_lvn N t s i).instr ≡ rewrite_instr (gen_new_vals s i.args) i.args i
 phi_is_kept = phi_kept
 
--- "a new number each time": the next one, which no name has had, with dest as its home, and with no value by which another could be found
--- to be the same.
+-- "a new number each time": wherever it stands in a block, the next one, above that of every name there, with dest as its home, and with no
+-- value by which another could be found to be the same.
 pub phi_has_new_number :
-    (N : ℕ) (t : NameIx → ℕ) (s : State) (i : Instr) → i.code ≡ 39 →
-    NewNumber (gen_new_vals s i.args).next i.dest (instr_lvn N t s i).state
-phi_has_new_number = phi_new
+    (N : ℕ) (t : NameIx → ℕ) (A k : ℕ) (js : List Instr) (i : Instr) → i.code ≡ 39 →
+    let s = behind N t (start A k) js in
+    let seen = gen_new_vals s i.args in
+    Numbers seen × NewNumber seen.next i.dest (instr_lvn N t s i).state
+phi_has_new_number = phi_above
 
 -- "In the machine it is an event over all its argument values, answered as codes 20 to 38 are."
 pub phi_asks_the_world :

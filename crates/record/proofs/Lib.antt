@@ -21,3 +21,5 @@ pub mod ReadSize
 pub mod Again
 pub mod Ends
 pub mod Judged
+pub mod Ids
+pub mod Versions

@@ -28,3 +28,4 @@ pub mod Decode
 pub mod Sizes
 pub mod Again
 pub mod Versions
+pub mod Converted

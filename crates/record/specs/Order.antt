@@ -27,6 +27,23 @@ fields =
     ("00000005", refused 5 83) ∷ ("43", refused 5 83) ∷ ("00", refused 3 84) ∷ ("0007", accepted) ∷
     []
 
+-- the same in version 2
+abbrev pub wide_fields : List (String × Returned)
+wide_fields =
+    ("02", refused 2 4) ∷ ("01", refused 3 5) ∷ ("0003", refused 3 6) ∷
+    ("00", refused 3 8) ∷ ("01", refused 3 9) ∷ ("61", refused 4 10) ∷
+    ("01", refused 3 11) ∷ ("01", refused 3 12) ∷ ("63", refused 4 13) ∷
+    ("03", refused 3 14) ∷ ("01", refused 3 15) ∷ ("64", refused 4 16) ∷
+    ("0002", refused 3 17) ∷
+    ("0004", refused 3 19) ∷ ("0000", refused 3 21) ∷
+    ("0000000000000001", refused 5 31) ∷ ("00", refused 5 31) ∷ ("0002", refused 6 32) ∷ ("03", refused 3 34) ∷ ("0000000000000041", refused 3 35) ∷
+    ("0000000000000002", refused 5 51) ∷ ("01", refused 5 51) ∷ ("0000", refused 6 52) ∷ ("02", refused 3 54) ∷ ("0000", refused 6 55) ∷ ("0000", refused 6 57) ∷
+    ("0000000000000003", refused 5 67) ∷ ("14", refused 5 67) ∷ ("0000", refused 6 68) ∷ ("01", refused 3 70) ∷ ("0001", refused 6 71) ∷ ("0007", refused 5 83) ∷
+    ("0000000000000004", refused 5 83) ∷ ("41", refused 5 83) ∷ ("01", refused 3 84) ∷ ("0001", refused 6 85) ∷ ("0000", refused 6 87) ∷ ("0001", refused 6 89) ∷
+    ("0001", refused 3 91) ∷ ("0000", refused 3 93) ∷
+    ("0000000000000005", refused 5 103) ∷ ("43", refused 5 103) ∷ ("00", refused 3 104) ∷ ("0007", accepted) ∷
+    []
+
 -- behind s: the cuts within the next fields that are not refused with 1 at their field
 unfoldable pub cuts : List ℕ → List (List ℕ) → List ℕ
 cuts s [] = []
@@ -37,13 +54,19 @@ unfoldable pub filled : ℕ → List ℕ → List (List ℕ) → List Returned
 filled n s [] = []
 filled n s (x ∷ xs) = says (with_length (s ++ replicate (n - length s) 0xFF)) ∷ filled n (s ++ x) xs
 
-pub cut_short : cuts [] (map (λ f. hex f.0) fields) ≡ []
+pub cut_short : cuts [] (map (λ f. hex f.0) fields) ++ cuts [] (map (λ f. hex f.0) wide_fields) ≡ []
 unfolding all_of_record flat_map count keep cuts
 cut_short = refl
 
 pub wrong_from : says (with_length (flat_map (λ f. hex f.0) fields)) ∷ filled 83 [] (map (λ f. hex f.0) fields) ≡ accepted ∷ map (λ f. f.1) fields
 unfolding all_of_record flat_map count keep filled
 wrong_from = refl
+
+pub wide_wrong_from :
+    says (with_length (flat_map (λ f. hex f.0) wide_fields)) ∷ filled 103 [] (map (λ f. hex f.0) wide_fields) ≡
+    accepted ∷ map (λ f. f.1) wide_fields
+unfolding all_of_record flat_map count keep filled
+wide_wrong_from = refl
 
 -- ---- faults side by side; all that follows L is written
 abbrev pub rows : List Row

@@ -87,8 +87,21 @@ texts =
     ("06 5F785F6C766E 0000", accepted) ∷ ("01 2E 0000", accepted) ∷
     ("20 7878787878787878787878787878787878787878787878787878787878787878 0000", accepted) ∷ [])
 
+-- the fields behind an id of eight bytes, in a record of version 2
+abbrev pub wider : List Row
+wider =
+    behind "02" (
+    ("", refused 1 5) ∷ ("00 0000 0001 0001 0000 00000000000000", refused 1 14) ∷ ("00 0000 0001 0002 0000 0000000000000007 40", refused 8 22) ∷ []) ++
+    (behind "02 00 0000 0001 0001 0000 FFFFFFFFFFFFFFFF" (
+    ("", refused 1 22) ∷ ("27", refused 1 23) ∷ ("28", refused 5 22) ∷ ("45 01", refused 3 23) ∷ ("45 00", accepted) ∷
+    ("40 00 0001", refused 6 24) ∷ ("42 02", refused 3 23) ∷ ("43 00 FFFF", accepted) ∷ []) ++
+    behind "02 00 0001 00 01 78 0001 0001 0000 0000000000000007" (
+    ("00 0001", refused 6 26) ∷ ("00 0000 04", refused 3 28) ∷ ("00 0000 01 0000000000000002", refused 3 29) ∷
+    ("00 0000 02 0000000000000000", refused 7 17) ∷ ("00 0000 02 0000000000000000 00", refused 1 37) ∷
+    ("00 0000 00 0000000000000000", accepted) ∷ ("01 0000 02 0000 0001", refused 6 31) ∷ ("41 01 0000 0000 0001", refused 6 31) ∷ []))
+
 abbrev pub rows : List Row
-rows = front ++ (instructions ++ texts)
+rows = front ++ (instructions ++ (texts ++ wider))
 
 pub refusals : map (λ r. says (with_length r.0)) rows ≡ map (λ r. r.1) rows
 unfolding all_of_record

@@ -6,7 +6,7 @@ use Rattle.arith.specs.Value.{Val, int, float, literal, char, bool, pointer}
 use Rattle.arith.specs.Word.{minus_one}
 use Rattle.record.specs.Answer.{Returned, success}
 use Rattle.record.specs.Hex.{hex}
-use Rattle.record.specs.Samples.{division, call, call_rewritten, walk}
+use Rattle.record.specs.Samples.{division, call, call_rewritten, call_wide, call_wide_rewritten, walk}
 use Rattle.record.specs.Text.{same_bytes}
 use Rattle.record.specs.Write.{be}
 use Rattle.machine.specs.Machine.{value, go_on, halt, Event}
@@ -226,8 +226,35 @@ room_rows =
     not_done (hex "00000001") "" "" 9 2 2 (record { number = 1; values = 0 ∷ [] }) ∷
     []
 
+-- ---- version 2: an event's id is as wide as in the record, and store and answers are as ever
+-- call with its ids in eight bytes
+abbrev pub call_2 : List ℕ
+call_2 = framed "02 01 0001 000161 0001 0002 0000 0000000000000001 14 0000 01 0000 0003 0000000000000002 44 01 0000"
+
+-- x = 7; x = div x a; print x: the division under the id 2^64-1
+abbrev pub division_wide : List ℕ
+division_wide = framed "02 01 0002 000161 000178 0001 0003 0000 0000000000000001 00 0001 00 0000000000000007 FFFFFFFFFFFFFFFF 04 0001 02 0001 0000 0000000000000003 44 01 0001"
+
+abbrev pub wide_rows : List Row
+wide_rows =
+    done call_2 five "0000000B 01 00 0000000000000006 FE" 9 (42 ∷ 14 ∷ 2 ∷ 0 ∷ 0 ∷ [])
+    42 "0000000000000001 14 0003 01 00 0000000000000005 0000000000000002 44 0000 01 00 0000000000000006" 14 "0000000A 01 00 0000000000000006" ∷
+    done call_wide five "0000000B 01 00 0000000000000006 FE" 9 (42 ∷ 14 ∷ 2 ∷ 0 ∷ 0 ∷ [])
+    43 "0000000100000000 14 0003 01 00 0000000000000005 FFFFFFFFFFFFFFFF 44 0000 01 00 0000000000000006 EE" 14 "0000000A 01 00 0000000000000006" ∷
+    done call_wide five "00000002 01 FD" 9 (21 ∷ 14 ∷ 1 ∷ 2 ∷ 0 ∷ [])
+    21 "0000000100000000 14 0003 01 00 0000000000000005" 14 "0000000A 01 00 0000000000000005" ∷
+    done division_wide "0000000B 01 00 0000000000000000 FF" "00000001 01" 9 (0 ∷ 23 ∷ 2 ∷ 4 ∷ 18446744073709551615 ∷ [])
+    0 "" 23 "00000013 01 00 0000000000000000 00 0000000000000007" ∷
+    -- 13, 14 and check's refusals: of the rewriting, and of version 3
+    at_13 call_2 "0000000A 02 00 0000000000000005" "00000002 01 FD" 9 ∷
+    at_13 call_2 five "00000002 02 FD" 9 ∷
+    not_done call_2 five "0000000B 01 00 0000000000000006 FE" 9 41 14 (record { number = 14; values = 42 ∷ 14 ∷ [] }) ∷
+    not_done call_wide_rewritten "" "" 9 0 0 (record { number = 4; values = 13 ∷ [] }) ∷
+    not_done (framed "03 00 0000 0000") "" "" 9 0 0 (record { number = 2; values = 4 ∷ [] }) ∷
+    []
+
 abbrev pub rows : List Row
-rows = limit_rows ++ (ending_rows ++ (unfit_rows ++ (length_rows ++ room_rows)))
+rows = limit_rows ++ (ending_rows ++ (unfit_rows ++ (length_rows ++ (room_rows ++ wide_rows))))
 
 -- by a test, which is computed at once
 abbrev pub agrees : Row → Bool

@@ -2,7 +2,7 @@
 use Rattle.std.specs.Prelude.{◌≡◌, refl, Bool, true, List, [], ◌∷◌, ◌++◌, map, ℕ}
 use Prim.Native.String.{String}
 use Rattle.record.specs.Hex.{hex}
-use Rattle.record.specs.Samples.{call}
+use Rattle.record.specs.Samples.{call, call_wide}
 use Rattle.record.specs.Text.{same_bytes}
 use Rattle.running.specs.Program.{output_with, run_output}
 use Rattle.running.specs.Opened.{all_of_running}
@@ -20,6 +20,9 @@ runs =
     -- to the end, in two steps: events of 34 bytes, a store of 14
     gives (given (hex "0000000B 01 00 0000000000000006 FE 0000000000000009"))
     "00 0000000000000022 000000000000000E 0000000000000002 0000000000000000 0000000000000000 00000001 14 0003 01 00 0000000000000005 00000002 44 0000 01 00 0000000000000006 0000000A 01 00 0000000000000006" ∷
+    -- the same in version 2: events of 42 bytes
+    gives (call_wide ++ hex "0000000A 01 00 0000000000000005 0000000B 01 00 0000000000000006 FE 0000000000000009")
+    "00 000000000000002A 000000000000000E 0000000000000002 0000000000000000 0000000000000000 0000000100000000 14 0003 01 00 0000000000000005 FFFFFFFFFFFFFFFF 44 0000 01 00 0000000000000006 0000000A 01 00 0000000000000006" ∷
     -- no step: the limit is spent
     gives (given (hex "00000001 01 0000000000000000"))
     "00 0000000000000000 000000000000000E 0000000000000000 0000000000000005 0000000000000000 0000000A 01 00 0000000000000005" ∷
