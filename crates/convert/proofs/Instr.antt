@@ -14,13 +14,14 @@ use Rattle.record.specs.Reader.{num_at}
 use Rattle.record.specs.Write.{be, join, operand_bytes, instr_bytes}
 use Rattle.record.specs.Decode.{operands_from, instr_from, instr_end}
 use Rattle.record.specs.Sizes.{places_end}
+use Rattle.record.specs.Ranged.{RangedInstr}
 use Rattle.record.proofs.Stands.{past, length_be}
 use Rattle.record.proofs.Ends.{instr_past, instr_on}
 use Rattle.read_layout.specs.declared.Spot.{Spot}
 use Rattle.write_bytes.specs.Put.{put, Wrote, IdWidth}
 use Rattle.write_bytes.proofs.Numbers.{width_four}
 use Rattle.write_bytes.proofs.Wrote.{wrote_number, wrote_append}
-use Rattle.convert.specs.Parts.{IdFits, Stands, Put}
+use Rattle.convert.specs.Parts.{Stands, Put}
 
 -- ---- whether an id has room in w bytes
 pub fits_eight : (w x : ℕ) → w ≡ 8 → x < 18446744073709551616 → true ≡ ltb x (256 ^ w)
@@ -42,7 +43,7 @@ instr_long w i = ap length (instr_parts w i) ∙ length-append (be w i.id) (tail
 
 module _
     (from to : ℕ) (s : List ℕ) (at : Spot)
-    (h : Stands instr_bytes (IdFits to) from to s at (instr_from from s at.p) (instr_end from s at.p))
+    (h : Stands instr_bytes (RangedInstr to) from to s at (instr_from from s at.p) (instr_end from s at.p))
   where
   abbrev here : Instr
   here = instr_from from s at.p
@@ -55,7 +56,7 @@ module _
   id_is = refl
 
   pub id_fits : (id : ℕ) → id ≡ num_at s at.p from → id < 256 ^ to
-  id_fits id e = rw (e ∙ sym id_is) h.fits
+  id_fits id e = rw (e ∙ sym id_is) h.fits.id
 
   -- the ends of the id, here and there
   pub id_ends : (at.p + from ≤ end) × (at.p + from < places_end) × (at.q + to < places_end)

@@ -8,6 +8,7 @@ ghost use Rattle.record.specs.Reader.{num_at};
 ghost use Rattle.record.specs.Write.{instr_bytes, block_bytes, bytes};
 ghost use Rattle.record.specs.Answer.{checked};
 ghost use Rattle.record.specs.Good.{Each};
+ghost use Rattle.record.specs.Ranged.{RangedInstr, RangedBlock};
 ghost use Rattle.record.specs.Decode.{behind, instr_from, instr_end, block_end, id_width};
 ghost use Rattle.record.specs.Again.{instrs_from, instrs_end, block_in, blocks_in, blocks_behind, record_in};
 ghost use Rattle.record.specs.Sizes.{places_end};
@@ -15,7 +16,7 @@ ghost use Rattle.record.specs.Versions.{in_version, first_wide, convert, convert
 ghost use Rattle.read_fields.specs.Places.{places};
 ghost use Rattle.read_layout.specs.Layout.{layout_of};
 ghost use Rattle.write_bytes.specs.Put.{put};
-ghost use Rattle.convert.specs.Parts.{body_placed, blocks_placed, scanned, IdFits, IdsFit, row_bytes, Stands, Put, Whole};
+ghost use Rattle.convert.specs.Parts.{body_placed, blocks_placed, scanned, row_bytes, Stands, Put, Whole};
 
 use read_layout::{Layout, Spot};
 use record::ConvertError;
@@ -79,7 +80,7 @@ impl Source<'_> {
     // ---- what is written
     // The instruction at a place; the places behind it.
     fn put_instr(self, out: &mut [u8], at: Spot) -> Spot
-        requires { Stands instr_bytes (IdFits self.to) self.from self.to self.reads.now at (instr_from self.from self.reads.now at.p)
+        requires { Stands instr_bytes (RangedInstr self.to) self.from self.to self.reads.now at (instr_from self.from self.reads.now at.p)
             (instr_end self.from self.reads.now at.p) }
         ensures { Put instr_bytes self.entry.to out.old out.new at result (instr_from self.entry.from self.entry.reads.now at.p)
             (instr_end self.entry.from self.entry.reads.now at.p) }
@@ -94,7 +95,7 @@ impl Source<'_> {
 
     // n instructions from a place on; the places behind them.
     fn put_body(self, out: &mut [u8], at: Spot, n: usize) -> Spot
-        requires { Stands (row_bytes instr_bytes) (Each (λ left i. IdFits self.to i)) self.from self.to self.reads.now at
+        requires { Stands (row_bytes instr_bytes) (Each (λ left i. RangedInstr self.to i)) self.from self.to self.reads.now at
             (instrs_from self.from self.reads.now at.p n) (instrs_end self.from self.reads.now at.p n) }
         ensures { Put (row_bytes instr_bytes) self.entry.to out.old out.new at result (instrs_from self.entry.from self.entry.reads.now at.p n)
             (instrs_end self.entry.from self.entry.reads.now at.p n) }
@@ -108,7 +109,7 @@ impl Source<'_> {
 
     // The block at a place: its head as it stands, and its instructions; the places behind it.
     fn put_block(self, out: &mut [u8], at: Spot) -> Spot
-        requires { Stands block_bytes (IdsFit self.to) self.from self.to self.reads.now at (block_in self.from self.reads.now at.p)
+        requires { Stands block_bytes (RangedBlock self.to) self.from self.to self.reads.now at (block_in self.from self.reads.now at.p)
             (block_end self.from self.reads.now at.p) }
         ensures { Put block_bytes self.entry.to out.old out.new at result (block_in self.entry.from self.entry.reads.now at.p)
             (block_end self.entry.from self.entry.reads.now at.p) }
@@ -120,7 +121,7 @@ impl Source<'_> {
 
     // n blocks from a place on; the places behind them.
     fn put_blocks(self, out: &mut [u8], at: Spot, n: usize) -> Spot
-        requires { Stands (row_bytes block_bytes) (Each (λ left b. IdsFit self.to b)) self.from self.to self.reads.now at
+        requires { Stands (row_bytes block_bytes) (Each (λ left b. RangedBlock self.to b)) self.from self.to self.reads.now at
             (blocks_in self.from self.reads.now at.p n) (blocks_behind self.from self.reads.now at.p n) }
         ensures { Put (row_bytes block_bytes) self.entry.to out.old out.new at result (blocks_in self.entry.from self.entry.reads.now at.p n)
             (blocks_behind self.entry.from self.entry.reads.now at.p n) }
