@@ -1,11 +1,11 @@
 -- The whole record: between the version and the blocks it is the same in both versions.
 use Prim.Native.Nat.{ℕ, ◌+◌, ◌-◌, ◌<◌, ◌≤◌}
-use mathlib.Core.Path.{◌≡◌, refl, sym, ap, ◌∙◌, subst}
-use mathlib.Core.List.{List, [], ◌∷◌, ◌++◌, map, append_assoc, append-nil}
+use mathlib.Core.Path.{◌≡◌, sym, ap, ◌∙◌, subst}
+use mathlib.Core.List.{List, [], ◌++◌, map, append_assoc, append-nil}
 use native.Mathlib.Omega.{arith}
 use lib.ListN.{length, take, drop, length-append}
 use lib.Seq.{take-append_seam}
-use Rattle.record.specs.Record.{Instr, Block, Record, id_bytes}
+use Rattle.record.specs.Record.{Instr, Record, id_bytes}
 use Rattle.record.specs.Ranged.{RangedBlock}
 use Rattle.record.specs.Reader.{num_at}
 use Rattle.record.specs.Write.{be, join, name_bytes, block_bytes, content_bytes, bytes}
@@ -24,10 +24,10 @@ use Rattle.write_bytes.proofs.Wrote.{wrote_number, wrote_append}
 use Rattle.convert.specs.Parts.{row_bytes, Stands, Put, Whole}
 
 -- A, N, the names and B
-abbrev middle : Record Instr → List ℕ
+abbrev pub middle : Record Instr → List ℕ
 middle r = be 1 r.args ++ (be 2 (length r.names) ++ (join (map name_bytes r.names) ++ be 2 (length r.blocks)))
 
-abbrev rows : Record Instr → List ℕ
+abbrev pub rows : Record Instr → List ℕ
 rows r = row_bytes block_bytes (id_bytes r.version) r.blocks
 
 record_parts : (r : Record Instr) → bytes r ≡ be 4 (length (content_bytes r)) ++ (be 1 r.version ++ (middle r ++ rows r))
@@ -43,7 +43,7 @@ record_parts r =
     ∙ sym (append_assoc a (n ++ (xs ++ b)) (rows r) ∙ ap (λ (t : List ℕ). a ++ t) (append_assoc n (xs ++ b) (rows r) ∙ ap (λ (t : List ℕ). n ++ t) (append_assoc xs b (rows r)))) in
     ap (λ (t : List ℕ). be 4 (length (content_bytes r)) ++ (be 1 r.version ++ t)) e
 
-record_long : (r : Record Instr) → length (bytes r) ≡ 5 + length (middle r) + length (rows r)
+pub record_long : (r : Record Instr) → length (bytes r) ≡ 5 + length (middle r) + length (rows r)
 record_long r =
     let l = be 4 (length (content_bytes r)) in
     let v = be 1 r.version in

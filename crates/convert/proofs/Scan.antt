@@ -1,17 +1,19 @@
 -- The search for an id that has no room: what is found from a place on, instruction by instruction and block by block.
-use Prim.Native.Nat.{ℕ, zero, suc, ◌+◌, ◌-◌, ◌^◌, ◌<◌, ◌≤◌}
-use mathlib.Core.Path.{◌≡◌, refl, sym, ap, ◌∙◌, subst}
+use Prim.Native.Nat.{ℕ, suc, ◌+◌, ◌-◌, ◌^◌, ◌<◌, ◌≤◌}
+use mathlib.Core.Path.{◌≡◌, refl, sym, ap, ◌∙◌}
 use mathlib.Core.List.{List, [], ◌∷◌, ◌++◌, flat_map}
 use mathlib.Core.Bool.{Bool, true, false, cond}
 use native.Mathlib.Omega.{arith}
 use lib.ListN.{length, length-append}
 use lib.Dec.{ltb}
-use Rattle.std.specs.Prelude.{Result, Ok, Err, Option, Some, None}
+use Rattle.std.specs.Prelude.{Ok, Err, Option, Some, None}
+use Rattle.record.specs.declared.ConvertError.{ConvertError}
+use Rattle.record.specs.declared.ConvertError.TheVariants.{Wide}
 use Rattle.arith.proofs.Clash.{clash}
 use Rattle.record.specs.Record.{Placed}
 use Rattle.record.specs.Reader.{num_at}
 use Rattle.record.specs.Decode.{items, behind, operands_from, instr_from, instr_end, body_from, block_end}
-use Rattle.record.specs.Versions.{first_wide}
+use Rattle.record.specs.Versions.{Converted, first_wide}
 use Rattle.record.proofs.Rows.{one_more, behind_on}
 use Rattle.record.proofs.Ends.{block_grows}
 use Rattle.record.proofs.Decode.{length_items}
@@ -42,19 +44,19 @@ module _ (to : ℕ) where
       go false h e = clash (cc)
 
 -- ---- what an answer tells
-found_ok : (f : Option ℕ) (n r : ℕ) → Ok r ≡ scanned f n → (f ≡ None) × (r ≡ n)
+pub found_ok : (f : Option ℕ) (n r : ℕ) → Ok r ≡ scanned f n → (f ≡ None) × (r ≡ n)
 unfolding scanned
 found_ok None n r e = (refl, cc)
 found_ok (Some o) n r e = clash (cc)
 
-found_err : (f : Option ℕ) (n o : ℕ) → Err o ≡ scanned f n → f ≡ Some o
+pub found_err : (f : Option ℕ) (n : ℕ) (e : ConvertError) → Err e ≡ scanned f n → (o : ℕ) × (e ≡ Wide o) × (f ≡ Some o)
 unfolding scanned
-found_err None n o e = clash (cc)
-found_err (Some p) n o e = cc
+found_err None n k e = clash (cc)
+found_err (Some p) n k e = (p, cc, refl)
 
 module _ (w to : ℕ) (s : List ℕ) where
   -- ---- of the instructions of a body, n from p on
-  abbrev pub in_body : ℕ → ℕ → Result ℕ ℕ
+  abbrev pub in_body : ℕ → ℕ → Converted
   in_body p n = scanned (first_wide to (body_placed w s p n)) (behind (instr_end w s) p n)
 
   body_more :
@@ -63,7 +65,7 @@ module _ (w to : ℕ) (s : List ℕ) where
   unfolding items behind first_wide instr_from operands_from
   body_more p n = refl
 
-  pub body_wide : (p n : ℕ) → 0 < n → ltb (num_at s p w) (256 ^ to) ≡ false → Err p ≡ in_body p n
+  pub body_wide : (p n : ℕ) → 0 < n → ltb (num_at s p w) (256 ^ to) ≡ false → Err (Wide p) ≡ in_body p n
   unfolding scanned
   body_wide p n h e =
       sym (ap (in_body p) (one_more n h) ∙ body_more p (n - 1) ∙
@@ -81,7 +83,7 @@ module _ (w to : ℕ) (s : List ℕ) where
   body_done p n z = sym (ap (in_body p) z)
 
   -- ---- of n blocks from p on, with so many instructions before them
-  abbrev pub in_blocks : ℕ → ℕ → ℕ → Result ℕ ℕ
+  abbrev pub in_blocks : ℕ → ℕ → ℕ → Converted
   in_blocks count p n = scanned (first_wide to (blocks_placed w s p n)) (length (blocks_placed w s p n) + count)
 
   abbrev body_at : ℕ → List Placed
@@ -105,13 +107,14 @@ module _ (w to : ℕ) (s : List ℕ) where
 
   -- the block at p, whose instructions are found to be so
   pub blocks_wide :
-      (count p n size at o : ℕ) → 0 < n → size ≡ num_at s p 2 → at ≡ p + 2 + 2 → Err o ≡ in_body at size → Err o ≡ in_blocks count p n
+      (count p n size at : ℕ) (k : ConvertError) → 0 < n → size ≡ num_at s p 2 → at ≡ p + 2 + 2 → Err k ≡ in_body at size →
+      Err k ≡ in_blocks count p n
   unfolding scanned
-  blocks_wide count p n size at o h es ea e =
-      let f : first_wide to (body_at p) ≡ Some o = found_err _ _ o (e ∙ λ i. in_body (ea i) (es i)) in
-      let g : first_wide to (blocks_placed w s p n) ≡ Some o =
-      ap (first_wide to) (split p n h) ∙ wide_first to (body_at p) (blocks_placed w s (block_end w s p) (n - 1)) o f in
-      sym (ap (λ (x : Option ℕ). scanned x (length (blocks_placed w s p n) + count)) g)
+  blocks_wide count p n size at k h es ea e =
+      let f = found_err _ _ k (e ∙ λ i. in_body (ea i) (es i)) in
+      let g : first_wide to (blocks_placed w s p n) ≡ Some f.0 =
+      ap (first_wide to) (split p n h) ∙ wide_first to (body_at p) (blocks_placed w s (block_end w s p) (n - 1)) f.0 f.2 in
+      ap (λ (x : ConvertError). Err x) f.1 ∙ sym (ap (λ (x : Option ℕ). scanned x (length (blocks_placed w s p n) + count)) g)
 
   pub blocks_on :
       (count p n m size at q : ℕ) → 0 < n → m ≡ n - 1 → size ≡ num_at s p 2 → at ≡ p + 2 + 2 → Ok q ≡ in_body at size →

@@ -6,17 +6,18 @@ ghost use Rattle.std.specs.Prelude.{Ok, Err, ◌≡◌, ◌+◌, ◌*◌, ◌^�
 ghost use Rattle.record.specs.Record.{id_bytes};
 ghost use Rattle.record.specs.Reader.{num_at};
 ghost use Rattle.record.specs.Write.{instr_bytes, block_bytes, bytes};
+ghost use Rattle.record.specs.Tests.{version_test};
 ghost use Rattle.record.specs.Answer.{checked};
 ghost use Rattle.record.specs.Good.{Each};
 ghost use Rattle.record.specs.Ranged.{RangedInstr, RangedBlock};
-ghost use Rattle.record.specs.Decode.{behind, instr_from, instr_end, block_end, id_width};
+ghost use Rattle.record.specs.Decode.{behind, instr_from, instr_end, block_end, id_width, record_from};
 ghost use Rattle.record.specs.Again.{instrs_from, instrs_end, block_in, blocks_in, blocks_behind, record_in};
 ghost use Rattle.record.specs.Sizes.{places_end};
-ghost use Rattle.record.specs.Versions.{in_version, first_wide, convert, convert_leaves, widen, widen_leaves, narrow, narrow_leaves};
+ghost use Rattle.record.specs.Versions.{in_version, converted_bytes, instructions, first_wide, convert, convert_leaves, widen, widen_leaves, narrow, narrow_leaves};
 ghost use Rattle.read_fields.specs.Places.{places};
 ghost use Rattle.read_layout.specs.Layout.{layout_of};
 ghost use Rattle.write_bytes.specs.Put.{put};
-ghost use Rattle.convert.specs.Parts.{body_placed, blocks_placed, scanned, row_bytes, Stands, Put, Whole};
+ghost use Rattle.convert.specs.Parts.{body_placed, blocks_placed, scanned, row_bytes, Stands, Put, Accepted, Whole};
 
 use read_layout::{Layout, Spot};
 use record::ConvertError;
@@ -48,14 +49,14 @@ impl Source<'_> {
     }
 
     // Of n instructions from a place on, the place of the first whose id has no room; else the place behind them.
-    fn scan_body(self, at: usize, n: usize) -> Result<usize, usize>
+    fn scan_body(self, at: usize, n: usize) -> Result<usize, ConvertError>
         requires { behind (instr_end self.from self.reads.now) at n < places_end }
         ensures { result ≡ scanned (first_wide self.entry.to (body_placed self.entry.from self.entry.reads.now at n)) (behind (instr_end self.entry.from self.entry.reads.now) at n) }
     {
         let mut p = at;
         for _ in 0..n {
             if !self.fits(p) {
-                return Err(p);
+                return Err(ConvertError::Wide(p));
             }
             p = read_layout::instr_end(self.reads, self.from, p);
         }
@@ -63,7 +64,7 @@ impl Source<'_> {
     }
 
     // Of n blocks from a place on, the place of the first instruction whose id has no room; else how many instructions they have.
-    fn scan_blocks(self, at: usize, n: usize) -> Result<usize, usize>
+    fn scan_blocks(self, at: usize, n: usize) -> Result<usize, ConvertError>
         requires { (behind (block_end self.from self.reads.now) at n < places_end) × (n < 65536) }
         ensures { result ≡ scanned (first_wide self.entry.to (blocks_placed self.entry.from self.entry.reads.now at n)) (length (blocks_placed self.entry.from self.entry.reads.now at n)) }
     {
@@ -75,6 +76,16 @@ impl Source<'_> {
             count += size;
         }
         Ok(count)
+    }
+
+    // How many bytes the record has in the version that is wanted; or the place of the first instruction whose id has no room.
+    fn size(self, layout: Layout) -> Result<usize, ConvertError>
+        requires { Accepted self.version self.reads.now × (layout ≡ layout_of self.reads.now) }
+        ensures { result ≡ scanned (first_wide (id_bytes self.entry.version) (instructions (record_from self.entry.reads.now)))
+            (length (converted_bytes self.entry.version (record_from self.entry.reads.now))) }
+    {
+        let n = self.scan_blocks(layout.end + 2, layout.blocks)?;
+        Ok(self.reads.len() - n * self.from + n * self.to)
     }
 
     // ---- what is written
@@ -146,42 +157,40 @@ impl Source<'_> {
     }
 }
 
-// Of an accepted record.
-fn convert_accepted(s: &[u8], out: &mut [u8], version: u8) -> Result<usize, ConvertError>
-    requires { checked s.now ≡ Ok tt }
-    ensures { (result ≡ convert version s.now out.old) × (out.new ≡ convert_leaves version s.now out.old) }
+// The record in a version, written whole or not at all: how many bytes are written; or check's refusal, the place of the first instruction whose id
+// has no room, or the bytes that the output is too short for.
+fn convert(input: &[u8], output: &mut [u8], version: u8) -> Result<usize, ConvertError>
+    requires { version_test version ≡ Ok tt }
+    ensures { (result ≡ convert version input.now output.old) × (output.new ≡ convert_leaves version input.now output.old) }
 {
-    let layout = read_layout::layout_of(s, &mut [], &mut []);
+    checker::check(input)?;
+    let layout = read_layout::layout_of(input, &mut [], &mut []);
     let source = Source {
-        reads: s,
+        reads: input,
         version,
         from: layout.width,
         to: read_layout::id_bytes(u64::from(version)),
     };
-    let n = source
-        .scan_blocks(layout.end + 2, layout.blocks)
-        .map_err(ConvertError::Wide)?;
-    let size = s.len() - n * source.from + n * source.to;
-    if out.len() < size {
+    let size = source.size(layout)?;
+    if output.len() < size {
         return Err(ConvertError::Room(size));
     }
-    source.put_record(out, layout, size as u32);
+    source.put_record(output, layout, size as u32);
     Ok(size)
 }
 
-// The record with ids of eight bytes, written whole or not at all: how many bytes are written; or check's refusal, or the bytes that the output is too
-// short for.
+// The record with ids of eight bytes, which have room for each id.
+#[tactic(auto, unfolding(record::specs::Tests::version_test))]
 pub fn widen(input: &[u8], output: &mut [u8]) -> Result<usize, ConvertError>
     ensures { (result ≡ widen input.now output.old) × (output.new ≡ widen_leaves input.now output.old) }
 {
-    checker::check(input)?;
-    convert_accepted(input, output, WIDE)
+    convert(input, output, WIDE)
 }
 
-// The record with ids of four bytes, or, besides, the place of the first instruction whose id has no room there.
+// The record with ids of four bytes, where each id is below 2^32.
+#[tactic(auto, unfolding(record::specs::Tests::version_test))]
 pub fn narrow(input: &[u8], output: &mut [u8]) -> Result<usize, ConvertError>
     ensures { (result ≡ narrow input.now output.old) × (output.new ≡ narrow_leaves input.now output.old) }
 {
-    checker::check(input)?;
-    convert_accepted(input, output, NARROW)
+    convert(input, output, NARROW)
 }

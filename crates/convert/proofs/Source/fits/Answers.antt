@@ -3,7 +3,6 @@ use mathlib.Core.Path.{sym, subst, ap, ◌∙◌}
 use lib.Dec.{ltb}
 use borrow.Author.Tests.{eq-eqb}
 use Prim.Native.Nat.{ℕ, ◌^◌}
-use native.Mathlib.Omega.{arith}
 use Rattle.record.specs.Reader.{num_at}
 use Rattle.write_bytes.specs.Put.{IdWidth}
 use Rattle.write_bytes.proofs.Numbers.{id_width}

@@ -1,5 +1,4 @@
 -- `convert::Source::put_block` meets its contract: the head, and behind it the instructions.
-use mathlib.Core.Path.{◌∙◌}
 use native.Mathlib.Omega.{arith}
 use Rattle.convert.proofs.Block.{head_ends, body_stands, block_put}
 use Rattle.convert.proofs.Source.put_block.Goals as goal

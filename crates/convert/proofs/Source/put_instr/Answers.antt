@@ -24,9 +24,9 @@ overflow_add-behind c = let a = c.args in
 
 pub put_word-requires : goal.put_word-requires
 put_word-requires c = let a = c.args in (
-    subst IdWidth (sym a.self.widths.1) (id_width a.self.version),
-    id_fits a.self.from a.self.to a.self.reads.now a.at c.requires _ c.read_id-id.ensures.0,
-  )
+  subst IdWidth (sym a.self.widths.1) (id_width a.self.version),
+  id_fits a.self.from a.self.to a.self.reads.now a.at c.requires _ c.read_id-id.ensures.0,
+)
 
 pub overflow_sub-end : goal.overflow_sub-end
 overflow_sub-end c = let a = c.args in

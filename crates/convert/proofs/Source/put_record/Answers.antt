@@ -1,10 +1,9 @@
 -- `convert::Source::put_record` meets its contract: L and the version, then all up to the blocks as it stands, then the blocks.
-use mathlib.Core.Path.{◌≡◌, ap, ◌∙◌}
-use Prim.Native.Nat.{ℕ, ◌+◌}
+use mathlib.Core.Path.{ap}
+use Prim.Native.Nat.{◌+◌}
 use native.Mathlib.Omega.{arith}
 use Rattle.read_layout.specs.declared.Layout.{Layout}
 use Rattle.read_layout.specs.Layout.{layout_of}
-use Rattle.record.specs.Record.{Record, Instr}
 use Rattle.record.proofs.Sizes.{record_size}
 use Rattle.record.specs.Versions.{in_version}
 use Rattle.record.specs.Again.{record_in}

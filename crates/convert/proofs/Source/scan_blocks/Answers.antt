@@ -1,9 +1,8 @@
 -- `convert::Source::scan_blocks` meets its contract: what is found from here, with the instructions before it, is what is found of all.
-use Prim.Native.Nat.{ℕ, ◌+◌, ◌-◌, ◌*◌, ◌<◌, ◌≤◌}
+use Prim.Native.Nat.{◌+◌, ◌-◌, ◌*◌, ◌<◌, ◌≤◌}
 use mathlib.Core.Path.{◌≡◌, sym, ap, ◌∙◌}
 use native.Mathlib.Omega.{arith}
-use Rattle.record.specs.Reader.{num_at}
-use Rattle.record.specs.Decode.{behind, instr_end, block_end}
+use Rattle.record.specs.Decode.{behind, block_end}
 use Rattle.record.proofs.Following.{handed_on}
 use Rattle.record.proofs.Rows.{behind_next, behind_within}
 use Rattle.record.proofs.Ends.{block_grows}

@@ -1,5 +1,5 @@
 -- `convert::Source::scan_body` meets its contract: what is found from here is what is found of all.
-use Prim.Native.Nat.{ℕ, ◌-◌, ◌<◌}
+use Prim.Native.Nat.{◌-◌, ◌<◌}
 use mathlib.Core.Path.{◌≡◌, sym, ap, ◌∙◌, subst}
 use native.Mathlib.Omega.{arith}
 use Rattle.record.specs.Reader.{num_at}
@@ -43,8 +43,8 @@ loop-preserved c = let a = c.args in
     let more : c.loop.counter < a.n = c.loop-test.true in (
       behind_next _ _ _ _ c.loop-test.true _ next ∙ c.loop.invariant.0,
       body_on a.self.from a.self.to s c.loop.p _ (a.n - c.loop.counter) _ (omega (arith, more)) (omega arith) next
-      (sym c.fits.ensures ∙ c.if-not-fits.false)
-      ∙ c.loop.invariant.1,
+          (sym c.fits.ensures ∙ c.if-not-fits.false)
+          ∙ c.loop.invariant.1,
     )
 
 pub returns : goal.returns
