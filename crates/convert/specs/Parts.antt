@@ -1,12 +1,15 @@
 -- What the code asks of the parts that it converts, instructions, blocks and rows of both, and what it then has.
-use Rattle.std.specs.Prelude.{Result, Ok, Err, Option, Some, None, ℕ, ◌+◌, ◌^◌, ◌<◌, ◌≤◌, List, ◌++◌, map, ◌≡◌, length, drop}
+use Rattle.std.specs.Prelude.{Ok, Err, Option, Some, None, ℕ, ◌+◌, ◌<◌, ◌≤◌, List, ◌++◌, map, ◌≡◌, length, drop}
 use mathlib.Core.List.{flat_map}
-use Rattle.record.specs.Record.{Instr, Placed, Block, id_bytes}
+use Rattle.record.specs.Record.{Bytes, Placed}
+use Rattle.record.specs.Tests.{version_test}
+use Rattle.record.specs.Answer.{checked}
+use Rattle.record.specs.Ranged.{Ranged}
 use Rattle.record.specs.Write.{join, bytes}
 use Rattle.record.specs.Decode.{items, placed_from, instr_end, block_from, block_end, names_end, blocks_end}
 use Rattle.record.specs.Again.{record_in}
-use Rattle.record.specs.Good.{Each}
-use Rattle.record.specs.Versions.{in_version}
+use Rattle.record.specs.declared.ConvertError.TheVariants.{Wide}
+use Rattle.record.specs.Versions.{in_version, Converted}
 use Rattle.record.specs.Sizes.{places_end}
 use Rattle.read_layout.specs.declared.Spot.{Spot}
 use Rattle.write_bytes.specs.Put.{Wrote}
@@ -20,16 +23,9 @@ abbrev pub blocks_placed : ℕ → List ℕ → ℕ → ℕ → List Placed
 blocks_placed w s at n = flat_map (λ b. b.body) (items (block_from w s) (block_end w s) at n)
 
 -- the place of an instruction whose id has no room, or else what is there to say
-unfoldable pub scanned : Option ℕ → ℕ → Result ℕ ℕ
+unfoldable pub scanned : Option ℕ → ℕ → Converted
 scanned None n = Ok n
-scanned (Some o) n = Err o
-
--- an id that fits w bytes; in each instruction of a block
-abbrev pub IdFits : ℕ → Instr → Type 0
-IdFits w i = i.id < 256 ^ w
-
-abbrev pub IdsFit : ℕ → Block Instr → Type 0
-IdsFit w b = Each (λ left i. IdFits w i) b.body
+scanned (Some o) n = Err (Wide o)
 
 -- ---- the parts
 -- the bytes of a row of parts; w: the bytes of an id
@@ -50,10 +46,16 @@ pub record Put {A : Type 0} (f : ℕ → A → List ℕ) (to : ℕ) (out out' : 
   pub next : r.p ≡ end
 
 -- ---- the record
+-- s is accepted, and the version is one of the two
+pub record Accepted (version : ℕ) (s : List ℕ) : Type 0 where
+  pub bytes : Bytes s
+  pub accepted : checked s ≡ Ok tt
+  pub known : version_test version ≡ Ok tt
+
 -- s is all of a record, whose ids fit a version, and which has so many bytes there
 pub record Whole (version : ℕ) (s : List ℕ) (size : ℕ) : Type 0 where
   pub all : bytes (record_in s) ≡ s
-  pub fits : Each (λ left b. IdsFit (id_bytes version) b) (record_in s).blocks
+  pub fits : Ranged (in_version version (record_in s))
   pub names : names_end s + 2 ≤ length s
   pub near : blocks_end s < places_end
   pub size_is : size ≡ length (bytes (in_version version (record_in s)))

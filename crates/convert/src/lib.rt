@@ -6,16 +6,18 @@ ghost use Rattle.std.specs.Prelude.{Ok, Err, ◌≡◌, ◌+◌, ◌*◌, ◌^�
 ghost use Rattle.record.specs.Record.{id_bytes};
 ghost use Rattle.record.specs.Reader.{num_at};
 ghost use Rattle.record.specs.Write.{instr_bytes, block_bytes, bytes};
+ghost use Rattle.record.specs.Tests.{version_test};
 ghost use Rattle.record.specs.Answer.{checked};
 ghost use Rattle.record.specs.Good.{Each};
-ghost use Rattle.record.specs.Decode.{behind, instr_from, instr_end, block_end, id_width};
+ghost use Rattle.record.specs.Ranged.{RangedInstr, RangedBlock};
+ghost use Rattle.record.specs.Decode.{behind, instr_from, instr_end, block_end, id_width, record_from};
 ghost use Rattle.record.specs.Again.{instrs_from, instrs_end, block_in, blocks_in, blocks_behind, record_in};
 ghost use Rattle.record.specs.Sizes.{places_end};
-ghost use Rattle.record.specs.Versions.{in_version, first_wide, convert, convert_leaves, widen, widen_leaves, narrow, narrow_leaves};
+ghost use Rattle.record.specs.Versions.{in_version, converted_bytes, instructions, first_wide, convert, convert_leaves, widen, widen_leaves, narrow, narrow_leaves};
 ghost use Rattle.read_fields.specs.Places.{places};
 ghost use Rattle.read_layout.specs.Layout.{layout_of};
 ghost use Rattle.write_bytes.specs.Put.{put};
-ghost use Rattle.convert.specs.Parts.{body_placed, blocks_placed, scanned, IdFits, IdsFit, row_bytes, Stands, Put, Whole};
+ghost use Rattle.convert.specs.Parts.{body_placed, blocks_placed, scanned, row_bytes, Stands, Put, Accepted, Whole};
 
 use read_layout::{Layout, Spot};
 use record::ConvertError;
@@ -42,18 +44,19 @@ impl Source<'_> {
         requires { at + 7 < places }
         ensures { result ≡ ltb (num_at self.entry.reads.now at self.entry.from) (256 ^ self.entry.to) }
     {
-        self.to == 8 || read_instrs::read_id(self.reads, at, self.from) < 1 << 32
+        let id = read_instrs::read_id(self.reads, at, self.from);
+        self.to == 8 || id < 1 << 32
     }
 
     // Of n instructions from a place on, the place of the first whose id has no room; else the place behind them.
-    fn scan_body(self, at: usize, n: usize) -> Result<usize, usize>
+    fn scan_body(self, at: usize, n: usize) -> Result<usize, ConvertError>
         requires { behind (instr_end self.from self.reads.now) at n < places_end }
         ensures { result ≡ scanned (first_wide self.entry.to (body_placed self.entry.from self.entry.reads.now at n)) (behind (instr_end self.entry.from self.entry.reads.now) at n) }
     {
         let mut p = at;
         for _ in 0..n {
             if !self.fits(p) {
-                return Err(p);
+                return Err(ConvertError::Wide(p));
             }
             p = read_layout::instr_end(self.reads, self.from, p);
         }
@@ -61,7 +64,7 @@ impl Source<'_> {
     }
 
     // Of n blocks from a place on, the place of the first instruction whose id has no room; else how many instructions they have.
-    fn scan_blocks(self, at: usize, n: usize) -> Result<usize, usize>
+    fn scan_blocks(self, at: usize, n: usize) -> Result<usize, ConvertError>
         requires { (behind (block_end self.from self.reads.now) at n < places_end) × (n < 65536) }
         ensures { result ≡ scanned (first_wide self.entry.to (blocks_placed self.entry.from self.entry.reads.now at n)) (length (blocks_placed self.entry.from self.entry.reads.now at n)) }
     {
@@ -75,10 +78,20 @@ impl Source<'_> {
         Ok(count)
     }
 
+    // How many bytes the record has in the version that is wanted; or the place of the first instruction whose id has no room.
+    fn size(self, layout: Layout) -> Result<usize, ConvertError>
+        requires { Accepted self.version self.reads.now × (layout ≡ layout_of self.reads.now) }
+        ensures { result ≡ scanned (first_wide (id_bytes self.entry.version) (instructions (record_from self.entry.reads.now)))
+            (length (converted_bytes self.entry.version (record_from self.entry.reads.now))) }
+    {
+        let n = self.scan_blocks(layout.end + 2, layout.blocks)?;
+        Ok(self.reads.len() - n * self.from + n * self.to)
+    }
+
     // ---- what is written
     // The instruction at a place; the places behind it.
     fn put_instr(self, out: &mut [u8], at: Spot) -> Spot
-        requires { Stands instr_bytes (IdFits self.to) self.from self.to self.reads.now at (instr_from self.from self.reads.now at.p)
+        requires { Stands instr_bytes (RangedInstr self.to) self.from self.to self.reads.now at (instr_from self.from self.reads.now at.p)
             (instr_end self.from self.reads.now at.p) }
         ensures { Put instr_bytes self.entry.to out.old out.new at result (instr_from self.entry.from self.entry.reads.now at.p)
             (instr_end self.entry.from self.entry.reads.now at.p) }
@@ -93,7 +106,7 @@ impl Source<'_> {
 
     // n instructions from a place on; the places behind them.
     fn put_body(self, out: &mut [u8], at: Spot, n: usize) -> Spot
-        requires { Stands (row_bytes instr_bytes) (Each (λ left i. IdFits self.to i)) self.from self.to self.reads.now at
+        requires { Stands (row_bytes instr_bytes) (Each (λ left i. RangedInstr self.to i)) self.from self.to self.reads.now at
             (instrs_from self.from self.reads.now at.p n) (instrs_end self.from self.reads.now at.p n) }
         ensures { Put (row_bytes instr_bytes) self.entry.to out.old out.new at result (instrs_from self.entry.from self.entry.reads.now at.p n)
             (instrs_end self.entry.from self.entry.reads.now at.p n) }
@@ -107,7 +120,7 @@ impl Source<'_> {
 
     // The block at a place: its head as it stands, and its instructions; the places behind it.
     fn put_block(self, out: &mut [u8], at: Spot) -> Spot
-        requires { Stands block_bytes (IdsFit self.to) self.from self.to self.reads.now at (block_in self.from self.reads.now at.p)
+        requires { Stands block_bytes (RangedBlock self.to) self.from self.to self.reads.now at (block_in self.from self.reads.now at.p)
             (block_end self.from self.reads.now at.p) }
         ensures { Put block_bytes self.entry.to out.old out.new at result (block_in self.entry.from self.entry.reads.now at.p)
             (block_end self.entry.from self.entry.reads.now at.p) }
@@ -119,7 +132,7 @@ impl Source<'_> {
 
     // n blocks from a place on; the places behind them.
     fn put_blocks(self, out: &mut [u8], at: Spot, n: usize) -> Spot
-        requires { Stands (row_bytes block_bytes) (Each (λ left b. IdsFit self.to b)) self.from self.to self.reads.now at
+        requires { Stands (row_bytes block_bytes) (Each (λ left b. RangedBlock self.to b)) self.from self.to self.reads.now at
             (blocks_in self.from self.reads.now at.p n) (blocks_behind self.from self.reads.now at.p n) }
         ensures { Put (row_bytes block_bytes) self.entry.to out.old out.new at result (blocks_in self.entry.from self.entry.reads.now at.p n)
             (blocks_behind self.entry.from self.entry.reads.now at.p n) }
@@ -144,42 +157,40 @@ impl Source<'_> {
     }
 }
 
-// Of an accepted record.
-fn convert_accepted(s: &[u8], out: &mut [u8], version: u8) -> Result<usize, ConvertError>
-    requires { checked s.now ≡ Ok tt }
-    ensures { (result ≡ convert version s.now out.old) × (out.new ≡ convert_leaves version s.now out.old) }
+// The record in a version, written whole or not at all: how many bytes are written; or check's refusal, the place of the first instruction whose id
+// has no room, or the bytes that the output is too short for.
+fn convert(input: &[u8], output: &mut [u8], version: u8) -> Result<usize, ConvertError>
+    requires { version_test version ≡ Ok tt }
+    ensures { (result ≡ convert version input.now output.old) × (output.new ≡ convert_leaves version input.now output.old) }
 {
-    let layout = read_layout::layout_of(s, &mut [], &mut []);
+    checker::check(input)?;
+    let layout = read_layout::layout_of(input, &mut [], &mut []);
     let source = Source {
-        reads: s,
+        reads: input,
         version,
         from: layout.width,
         to: read_layout::id_bytes(u64::from(version)),
     };
-    let n = source
-        .scan_blocks(layout.end + 2, layout.blocks)
-        .map_err(ConvertError::Wide)?;
-    let size = s.len() - n * source.from + n * source.to;
-    if out.len() < size {
+    let size = source.size(layout)?;
+    if output.len() < size {
         return Err(ConvertError::Room(size));
     }
-    source.put_record(out, layout, size as u32);
+    source.put_record(output, layout, size as u32);
     Ok(size)
 }
 
-// The record with ids of eight bytes, written whole or not at all: how many bytes are written; or check's refusal, or the bytes that the output is too
-// short for.
+// The record with ids of eight bytes, which have room for each id.
+#[tactic(auto, unfolding(record::specs::Tests::version_test))]
 pub fn widen(input: &[u8], output: &mut [u8]) -> Result<usize, ConvertError>
     ensures { (result ≡ widen input.now output.old) × (output.new ≡ widen_leaves input.now output.old) }
 {
-    checker::check(input)?;
-    convert_accepted(input, output, WIDE)
+    convert(input, output, WIDE)
 }
 
-// The record with ids of four bytes, or, besides, the place of the first instruction whose id has no room there.
+// The record with ids of four bytes, where each id is below 2^32.
+#[tactic(auto, unfolding(record::specs::Tests::version_test))]
 pub fn narrow(input: &[u8], output: &mut [u8]) -> Result<usize, ConvertError>
     ensures { (result ≡ narrow input.now output.old) × (output.new ≡ narrow_leaves input.now output.old) }
 {
-    checker::check(input)?;
-    convert_accepted(input, output, NARROW)
+    convert(input, output, NARROW)
 }

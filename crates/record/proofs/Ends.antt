@@ -122,7 +122,7 @@ names_past s (suc n) p h =
     omega (arith, e, t, name_size x, join_cons (name_bytes x) (map name_bytes (items (name_from s) (name_end s) q n)))
 
 -- ---- the record
-record_past : (s : List ℕ) → names_end s ≤ length s → blocks_end s ≡ length (bytes (record_in s))
+pub record_past : (s : List ℕ) → names_end s ≤ length s → blocks_end s ≡ length (bytes (record_in s))
 unfolding blocks_end names_end blocks_in record_from
 record_past s h =
     let w = id_width s in

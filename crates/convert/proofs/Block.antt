@@ -1,0 +1,99 @@
+-- One block: its head is the same in both widths, and its instructions stand behind it.
+use Prim.Native.Nat.{ℕ, ◌+◌, ◌<◌}
+use mathlib.Core.Path.{◌≡◌, sym, ap, ◌∙◌, subst}
+use mathlib.Core.List.{List, ◌++◌, append_assoc, append-nil}
+use native.Mathlib.Omega.{arith}
+use lib.ListN.{length, take, drop, length-append}
+use lib.Seq.{take-append_seam}
+use Rattle.record.specs.Record.{Instr, Block}
+use Rattle.record.specs.Ranged.{RangedInstr, RangedBlock}
+use Rattle.record.specs.Reader.{num_at}
+use Rattle.record.specs.Write.{be, join, instr_bytes, block_bytes}
+use Rattle.record.specs.Decode.{block_end}
+use Rattle.record.specs.Again.{instrs_from, instrs_end, block_in}
+use Rattle.record.specs.Good.{Each}
+use Rattle.record.specs.Sizes.{places_end}
+use Rattle.record.proofs.Stands.{past, length_be}
+use Rattle.record.proofs.Ends.{block_body, block_past}
+use Rattle.read_layout.specs.declared.Spot.{Spot}
+use Rattle.write_bytes.specs.Put.{Wrote}
+use Rattle.write_bytes.proofs.Wrote.{wrote_append}
+use Rattle.convert.specs.Parts.{row_bytes, Stands, Put}
+
+abbrev head : Block Instr → List ℕ
+head b = be 2 (length b.body) ++ be 2 b.saves
+
+head_long : (b : Block Instr) → length (head b) ≡ 4
+head_long b = omega (arith, length-append (be 2 (length b.body)) (be 2 b.saves), length_be 2 (length b.body), length_be 2 b.saves)
+
+block_parts : (w : ℕ) (b : Block Instr) → block_bytes w b ≡ head b ++ row_bytes instr_bytes w b.body
+unfolding block_bytes join
+block_parts w b =
+    let rows = row_bytes instr_bytes w b.body in
+    ap (λ (l : List ℕ). be 2 (length b.body) ++ (be 2 b.saves ++ l)) (append-nil rows)
+    ∙ sym (append_assoc (be 2 (length b.body)) (be 2 b.saves) rows)
+
+pub block_long : (w : ℕ) (b : Block Instr) → length (block_bytes w b) ≡ 4 + length (row_bytes instr_bytes w b.body)
+block_long w b = ap length (block_parts w b) ∙ length-append (head b) (row_bytes instr_bytes w b.body) ∙ ap (λ (k : ℕ). k + length (row_bytes instr_bytes w b.body)) (head_long b)
+
+module _
+    (from to : ℕ) (s : List ℕ) (at : Spot)
+    (h : Stands block_bytes (RangedBlock to) from to s at (block_in from s at.p) (block_end from s at.p))
+  where
+    abbrev here : Block Instr
+    here = block_in from s at.p
+
+    pub head_ends : (at.p + 4 < places_end) × (at.q + 4 < places_end)
+    head_ends =
+        let a : block_end from s at.p < places_end = h.reads in
+        let b : at.q + length (block_bytes to here) < places_end = h.writes in
+        (omega (arith, a, block_past from s at.p, block_long from here), omega (arith, b, block_long to here))
+
+    all_there : drop at.p s ≡ head here ++ (row_bytes instr_bytes from here.body ++ h.rest)
+    all_there =
+        h.stands ∙ ap (λ (l : List ℕ). l ++ h.rest) (block_parts from here)
+        ∙ append_assoc (head here) (row_bytes instr_bytes from here.body) h.rest
+
+    head_there : take 4 (drop at.p s) ≡ head here
+    head_there = rw (sym (head_long here), all_there) (take-append_seam (head here) (row_bytes instr_bytes from here.body ++ h.rest))
+
+    -- so many instructions from there on
+    module _ (n p : ℕ) (en : n ≡ num_at s at.p 2) (ep : p ≡ at.p + 2 + 2) where
+      body_is : here.body ≡ instrs_from from s p n
+      body_is = block_body from s at.p ∙ (λ i. instrs_from from s (sym ep i) (sym en i))
+
+      body_end : instrs_end from s p n ≡ block_end from s at.p
+      unfolding instrs_end block_end
+      body_end = λ i. instrs_end from s (ep i) (en i)
+
+      pub body_stands :
+          {out mid : List ℕ} {q : ℕ} → Wrote out mid at.q q (take 4 (drop at.p s)) →
+          Stands (row_bytes instr_bytes) (Each (λ left i. RangedInstr to i)) from to s (record { p = p; q = q }) (instrs_from from s p n)
+          (instrs_end from s p n)
+      body_stands {q = q} a =
+          let four : p ≡ at.p + length (head here) = omega (arith, ep, head_long here) in
+          let w : at.q + length (block_bytes to here) < places_end = h.writes in
+          subst (λ (is : List Instr). Stands (row_bytes instr_bytes) (Each (λ left i. RangedInstr to i)) from to s (record { p = p; q = q }) is (instrs_end from s p n))
+          body_is
+          (record {
+            rest = h.rest;
+            stands = ap (λ (k : ℕ). drop k s) four ∙ past s (head here) (row_bytes instr_bytes from here.body ++ h.rest) at.p all_there;
+            fits = h.fits.body;
+            reads = rw body_end h.reads;
+            writes = omega (arith, a.end, ap length head_there, head_long here, w, block_long to here);
+          })
+
+      pub block_put :
+          {out mid out' : List ℕ} {q : ℕ} {r : Spot} →
+          Wrote out mid at.q q (take 4 (drop at.p s)) →
+          Put (row_bytes instr_bytes) to mid out' (record { p = p; q = q }) r (instrs_from from s p n) (instrs_end from s p n) →
+          Put block_bytes to out out' at r here (block_end from s at.p)
+      block_put {out} {mid} {out'} {q} {r} a d =
+          let first : Wrote out mid at.q q (head here) = subst (λ (l : List ℕ). Wrote out mid at.q q l) head_there a in
+          let rows = subst (λ (is : List Instr). Wrote mid out' q r.q (row_bytes instr_bytes to is)) (sym body_is) d.wrote in
+          record {
+            wrote =
+                subst (λ (l : List ℕ). Wrote out out' at.q r.q l) (sym (block_parts to here))
+                (wrote_append (head here) (row_bytes instr_bytes to here.body) first rows);
+            next = d.next ∙ body_end;
+          }

@@ -1,0 +1,13 @@
+-- What the loop keeps: what is found from here is what is found of all.
+use Prim.Native.Nat.{◌-◌}
+use mathlib.Core.Path.{◌≡◌}
+use Rattle.record.specs.Decode.{behind, instr_end}
+use Rattle.convert.proofs.Scan.{in_body}
+use Rattle.convert.proofs.Source.scan_body.Given as goal
+
+abbrev pub invariant-loop : goal.invariant-loop
+invariant-loop l =
+    let a = l.self in
+    let s = a.reads.now in
+    let left = l.n - l.counter in
+    (behind (instr_end a.from s) l.p left ≡ behind (instr_end a.from s) l.at l.n) × (in_body a.from a.to s l.p left ≡ in_body a.from a.to s l.at l.n)
