@@ -44,15 +44,15 @@ widening_is_never_15 = versions.widen_never_wide
 module _ (s : List ℕ) (r : Record Placed) (a : Accepted s r) where
   -- "narrowing meets an id of 2^32 or more, at the first such instruction's offset": it is 15 whatever the room, and the ids before are less.
   pub narrowing_meets_wide_id :
-      (out : List ℕ) (o : ℕ) → first_wide 4 (instructions r) ≡ Some o → (narrow s out ≡ Err (Wide o)) × FirstWide 4 (instructions r) o
-  unfolding id_bytes
-  narrowing_meets_wide_id out o e = (versions.wide_refused s a.bytes r a.end a.accepted 1 o out e, first_is 4 (instructions r) o e)
+      (out : List ℕ) (o : ℕ) →
+      first_wide (id_bytes 1) (instructions r) ≡ Some o →
+      (narrow s out ≡ Err (Wide o)) × FirstWide (id_bytes 1) (instructions r) o
+  narrowing_meets_wide_id out o e = (versions.wide_refused s a.bytes r a.end a.accepted 1 o out e, first_is (id_bytes 1) (instructions r) o e)
 
   -- Where each id is below 2^32 it is narrowed: with room, the record in version 1 is written, and else it is 9 with the bytes needed.
-  pub narrowing_is_done : Fit 4 (ids (plain r)) → Converts 1 s (converted_bytes 1 r)
-  unfolding id_bytes
+  pub narrowing_is_done : Fit (id_bytes 1) (ids (plain r)) → Converts 1 s (converted_bytes 1 r)
   narrowing_is_done f =
-      versions.converts s a.bytes r a.end a.accepted 1 (fit_none 4 (instructions r) (subst (Fit 4) (sym (ids_of r)) f))
+      versions.converts s a.bytes r a.end a.accepted 1 (fit_none (id_bytes 1) (instructions r) (subst (Fit (id_bytes 1)) (sym (ids_of r)) f))
 
   -- Every accepted record is widened so.
   pub widening_is_done : Converts 2 s (converted_bytes 2 r)
