@@ -99,13 +99,14 @@ uint8_t lvn_run(const uint8_t *record, size_t record_length, const uint8_t *stor
 
 /* Writes the record in version 2, whose ids have eight bytes, to the start of output: 0, a refusal of lvn_check, or 9.
  * answer: 0: the bytes written. 1 to 8: the offset of the first fault. 9: the bytes needed.
- * A record of version 2 comes out unchanged. A refusal leaves output as it was, and success leaves the bytes beyond the record as they were. Twice as
- * many bytes of output as of input are always enough. */
+ * A record of version 2 comes out unchanged. A refusal leaves output as it was, and success leaves the bytes beyond the record as they
+ * were. Two bytes of output for each byte of input are always enough. */
 uint8_t lvn_widen(const uint8_t *input, size_t input_length, uint8_t *output, size_t output_length, size_t *answer);
 
-/* Writes the record in version 1, whose ids have four bytes: as lvn_widen does, or 15 before 9.
- * answer: 15: the offset of the first instruction whose id is 2^32 or more.
- * A record of version 1 comes out unchanged. As many bytes of output as of input are always enough. */
+/* Writes the record in version 1, whose ids have four bytes, to the start of output: 0, a refusal of lvn_check, 15, or 9.
+ * answer: as lvn_widen leaves it. 15: the offset of the first instruction whose id is 2^32 or more.
+ * A record of version 1 comes out unchanged. What is left as it was is as with lvn_widen. As many bytes of output as of input are always
+ * enough. */
 uint8_t lvn_narrow(const uint8_t *input, size_t input_length, uint8_t *output, size_t output_length, size_t *answer);
 
 #ifdef __cplusplus
