@@ -14,6 +14,7 @@ sys.path[:0] = [str(TOP / "tools" / part) for part in ("view", "vectors")]
 
 import lvn
 from reading import read
+from run_command import event_lines
 
 GUARD, MARK = 0xA5, 0xA5A5
 
@@ -41,6 +42,17 @@ def refused():
         yield C1[:size], (1, 0)
 
 
+def wide(record):
+    """A record of version 1, or a rewriting of one, in version 2: four bytes of zeros before each id."""
+    out, last = b"\2", 5
+    for block in read(record).blocks:
+        for instr in block.instrs:
+            out += record[last:instr.at] + bytes(4)
+            last = instr.at
+    out += record[last:]
+    return len(out).to_bytes(4, "big") + out
+
+
 def figures_of(rewriting):
     """Bytes, saves and instructions of the blocks, as the rewriting has them."""
     blocks = read(rewriting).blocks
@@ -56,6 +68,8 @@ def refusal(function, *lent):
 
 C1 = (TOP / "examples/c1.rec").read_bytes()
 C1_OUT = bytes.fromhex(lines("vectors/worked.txt")[0][2])
+C1_WIDE = bytes.fromhex("00000033 02 02 0003 000161 000162 000178 0001 0002 0000"
+                        "0000000000000007 01 0002 02 0000 0001 0000000000000008 01 0002 02 0001 0000")
 NONE = bytes.fromhex("00000006 01 00 0000 0000")  # no block
 NO_ITEMS = bytes.fromhex("00000001 01")  # a store of no names, or no answers
 
@@ -66,6 +80,7 @@ class Answers(unittest.TestCase):
         self.assertEqual(lvn.rewrite(C1), (C1_OUT, 1))
         self.assertEqual(lvn.figures(C1), (64, 1, [3]))
         self.assertEqual(lvn.name_text(C1, C1_OUT, 3), b"_x_lvn0")
+        self.assertEqual((lvn.widen(C1), lvn.narrow(C1_WIDE)), (C1_WIDE, C1))
 
     def test_no_block(self):
         self.assertEqual(lvn.rewrite(NONE), (NONE, 0))
@@ -161,6 +176,8 @@ class Buffers(unittest.TestCase):
             self.assertEqual(lvn.figures(lend(C1)), (64, 1, [3]))
             self.assertEqual(lvn.name_text(lend(C1), lend(C1_OUT), 0), b"a")
             self.assertEqual(lvn.name_text(lend(C1), lend(C1_OUT), 3), b"_x_lvn0")
+            self.assertEqual(lvn.widen(lend(C1)), C1_WIDE)
+            self.assertEqual(lvn.narrow(lend(C1_WIDE)), C1)
             self.assertEqual(refusal(lvn.check, lend(b"")), (1, 0))
             self.assertEqual(refusal(lvn.name_text, lend(C1), lend(b""), 0), (11, 0))
 
@@ -168,6 +185,8 @@ class Buffers(unittest.TestCase):
         for output in (bytearray(64), array("B", bytes(64)), array("Q", bytes(64)), (ctypes.c_uint8 * 64)()):
             self.assertEqual(lvn.rewrite_into(C1, output), (64, 1))
             self.assertEqual(bytes(output), C1_OUT)
+            self.assertEqual(lvn.widen_into(C1, output), 55)
+            self.assertEqual(bytes(output), C1_WIDE + C1_OUT[55:])
         for places in (array("H", [0]), memoryview(bytearray(2)).cast("H"), (ctypes.c_uint16 * 1)()):
             self.assertEqual(lvn.figures_into(C1, places), (64, 1))
             self.assertEqual(list(places), [3])
@@ -176,7 +195,8 @@ class Buffers(unittest.TestCase):
         for record in (None, 47, "text", [1, 2]):
             self.assertRaises(TypeError, lvn.check, record)
         for output in (bytes(64), memoryview(bytearray(128))[::2], [0] * 64, None):
-            self.assertRaises(TypeError, lvn.rewrite_into, C1, output)
+            for into in (lvn.rewrite_into, lvn.widen_into, lvn.narrow_into):
+                self.assertRaises(TypeError, into, C1, output)
         for places in (bytes(2), bytearray(2), array("h", [0]), array("I", [0]), memoryview(bytes(2)).cast("H"), [0], None):
             self.assertRaises(TypeError, lvn.figures_into, C1, places)
         odd = memoryview(bytearray(16))
@@ -188,9 +208,13 @@ class Buffers(unittest.TestCase):
         with memoryview(both) as view:
             self.assertEqual(lvn.rewrite_into(view[:len(C1)], view), (64, 1))
         self.assertEqual(both, C1_OUT + bytes([GUARD] * (len(C1) + 40 - 64)))
+        both[:55] = C1_WIDE
+        with memoryview(both) as view:
+            self.assertEqual(lvn.narrow_into(view[:55], view), 47)
+        self.assertEqual(both[:55], C1 + C1_WIDE[47:])
 
     def test_longer_where_caught(self):
-        output, places = bytearray(), array("H")
+        output, places, two = bytearray(), array("H"), bytearray()
         try:
             lvn.rewrite_into(C1, output)
         except lvn.Room as e:
@@ -199,8 +223,87 @@ class Buffers(unittest.TestCase):
             lvn.figures_into(C1, places)
         except lvn.TooFew:
             places.append(0)
+        try:
+            lvn.widen_into(C1, two)
+        except lvn.Room as e:
+            two.extend(bytes(e.needed))
         self.assertEqual((lvn.rewrite_into(C1, output), lvn.figures_into(C1, places)), ((64, 1), (64, 1)))
+        self.assertEqual((lvn.widen_into(C1, two), two), (55, C1_WIDE))
         output.append(0)
+
+
+class Versions(unittest.TestCase):
+    """Records of version 2, and the conversions from each version to each."""
+
+    def test_version_2(self):
+        for record, rewriting in accepted():
+            _, saves, blocks = figures_of(rewriting)
+            record, rewriting = wide(record), wide(rewriting)
+            self.assertIsNone(lvn.check(record))
+            self.assertEqual(lvn.rewrite(record), (rewriting, saves))
+            self.assertEqual(lvn.figures(record), (len(rewriting), saves, blocks))
+
+    def test_converted(self):
+        for record, _ in accepted():
+            two = wide(record)
+            for function, into, given, out in ((lvn.widen, lvn.widen_into, record, two), (lvn.narrow, lvn.narrow_into, two, record),
+                                               (lvn.widen, lvn.widen_into, two, two), (lvn.narrow, lvn.narrow_into, record, record)):
+                self.assertEqual(function(given), out)
+                for size in (0, 1, len(out) - 1, len(out), len(out) + 1, len(out) + 40):
+                    self.outputs(into, given, out, size)
+
+    def outputs(self, into, given, out, size):
+        """Of a length; only what is written changes."""
+        output = bytearray([GUARD] * (size + 2))
+        written = out if size >= len(out) else b""
+        with memoryview(output)[1:-1] as lent:
+            if written:
+                self.assertEqual(into(given, lent), len(out))
+            else:
+                with self.assertRaises(lvn.Room) as caught:
+                    into(given, lent)
+                self.assertEqual((caught.exception.number, caught.exception.needed), (9, len(out)))
+        self.assertEqual(output, bytes([GUARD]) + written + bytes([GUARD] * (size + 1 - len(written))))
+
+    def refuses(self, record, answer, *entries):
+        output = bytearray([GUARD] * 100)
+        for function, into in entries:
+            self.assertEqual(refusal(function, record), answer)
+            self.assertEqual(refusal(into, record, output), answer)
+            self.assertEqual(refusal(into, record, bytearray()), answer)
+        self.assertEqual(set(output), {GUARD})
+
+    def test_refused(self):
+        both = (lvn.widen, lvn.widen_into), (lvn.narrow, lvn.narrow_into)
+        for record, answer in refused():
+            self.refuses(record, answer, *both)
+        for at, new, *answer in ((3, "32", 1, 0), (4, "03", 2, 4), (4, "01", 3, 30), (5, "11", 3, 5), (10, "31", 4, 10), (31, "28", 5, 31),
+                                 (32, "0003", 6, 32), (47, "05", 7, 39), (31, "40", 8, 31)):
+            new = bytes.fromhex(new)
+            record = C1_WIDE[:at] + new + C1_WIDE[at + len(new):]
+            self.assertEqual(refusal(lvn.check, record), tuple(answer))
+            self.refuses(record, tuple(answer), *both)
+
+    def test_wide_ids(self):
+        for ids, offset in (((7, 2**32 - 1), None), ((7, 2**32), 39), ((2**32, 7), 23), ((2**64 - 1, 2**32), 23), ((7, 5 * 2**32 + 8), 39)):
+            one, two = (id_.to_bytes(8, "big") for id_ in ids)
+            record = C1_WIDE[:23] + one + C1_WIDE[31:39] + two + C1_WIDE[47:]
+            self.assertEqual(lvn.widen(record), record)
+            if offset is None:
+                self.assertEqual(lvn.widen(lvn.narrow(record)), record)
+            else:
+                self.refuses(record, (15, offset), (lvn.narrow, lvn.narrow_into))
+            damaged = record[:-2] + b"\0\3"  # check's refusals come first
+            self.refuses(damaged, (6, 53), (lvn.narrow, lvn.narrow_into))
+
+    def test_events(self):
+        """Ids of events and of divisions are as wide as in the record; store and answers keep their form."""
+        for lent, number, values, events, left in Runs().stored():
+            if number == 0 and lent[0][4] == 1:
+                ran = lvn.run(wide(lent[0]), *lent[1:])
+                self.assertEqual([*event_lines(ran.events, 8)], [*event_lines(events, 4)])
+                self.assertEqual(len(ran.events) - len(events), 4 * len([*event_lines(events, 4)]))
+                self.assertEqual(ran[1:], (left, values[2], lvn.ENDS[values[3]], values[4]))
 
 
 class Runs(unittest.TestCase):
@@ -278,7 +381,7 @@ class Words(unittest.TestCase):
         self.addCleanup(os.chdir, os.getcwd())
         os.chdir(TOP)
         failed, tried = doctest.testfile(str(Path(__file__).with_name("README.md")), False, optionflags=doctest.IGNORE_EXCEPTION_DETAIL)
-        self.assertEqual((failed, tried), (0, 9))
+        self.assertEqual((failed, tried), (0, 11))
 
     def test_every_entry_is_described(self):
         for name in lvn.__all__:
