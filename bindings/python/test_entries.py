@@ -284,6 +284,18 @@ class Versions(unittest.TestCase):
             self.assertEqual(refusal(lvn.check, record), tuple(answer))
             self.refuses(record, tuple(answer), *both)
 
+    def test_stored(self):
+        for record, version, number, value, *out in lines("crates/replay_convert/stdin"):
+            record, number, value = bytes.fromhex(record), int(number), int(value)
+            function, into = ((lvn.narrow, lvn.narrow_into), (lvn.widen, lvn.widen_into))[version == "2"]
+            if number == 0:
+                out = bytes.fromhex(*out)
+                self.assertEqual((function(record), len(out)), (out, value))
+                for size in (value - 1, value, value + 9):
+                    self.outputs(into, record, out, size)
+            else:
+                self.refuses(record, (number, value), (function, into))
+
     def test_wide_ids(self):
         for ids, offset in (((7, 2**32 - 1), None), ((7, 2**32), 39), ((2**32, 7), 23), ((2**64 - 1, 2**32), 23), ((7, 5 * 2**32 + 8), 39)):
             one, two = (id_.to_bytes(8, "big") for id_ in ids)
