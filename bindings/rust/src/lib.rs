@@ -237,9 +237,9 @@ pub fn name_text<'a>(input: &'a [u8], rewriting: &'a [u8], index: usize) -> Resu
 
 /// Runs the function of a record on the plain machine, from a starting store
 /// and with a list of answers, both in the house form, for at most `limit`
-/// steps. The events go to the start of `events`, the final store to that of
-/// `left`. Otherwise both stay as they were; the bytes beyond stay as they
-/// were in any case.
+/// steps. The events go to the start of `events`, with ids as wide as the
+/// record's, the final store to that of `left`. Otherwise both stay as they
+/// were; the bytes beyond stay as they were in any case.
 pub fn run(
     record: &[u8],
     store: &[u8],
