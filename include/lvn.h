@@ -2,7 +2,8 @@
  *
  *     (cd crates/exports && rt lib)        makes crates/exports/out/libexports.a
  *
- * Records, refusals and limits are those of docs/REFERENCE.md. Each function returns 0, or the number of its refusal:
+ * Records, refusals and limits are those of docs/REFERENCE.md. Each function takes records of version 1, with ids of four bytes, and of
+ * version 2, with ids of eight. It returns 0, or the number of its refusal:
  *
  *     1  fewer than four bytes, L not the rest, a field past the end, or bytes left over
  *     2  version: neither 1 nor 2
@@ -90,8 +91,8 @@ typedef struct {
 
 /* Runs the function of a record on the plain machine, from a starting store and with a list of answers, for at most limit steps: 0, a
  * refusal of lvn_check, 13 or 14. store and answers are in the house form of docs/REFERENCE.md.
- * 0: the events stand first in events, the final store, in the house form too, in final_store; the bytes beyond are as they were. The
- * limit is spent exactly if the machine has not ended within that many steps.
+ * 0: the events stand first in events, with ids as wide as the record's, the final store, in the house form too, in final_store; the bytes
+ * beyond are as they were. The limit is spent exactly if the machine has not ended within that many steps.
  * A refusal leaves both as they were. 148 bytes of events for each answer, and 148 more, are always enough, and 4,357 of final_store. */
 uint8_t lvn_run(const uint8_t *record, size_t record_length, const uint8_t *store, size_t store_length, const uint8_t *answers,
                 size_t answers_length, uint64_t limit, uint8_t *events, size_t events_length, uint8_t *final_store, size_t final_length,
@@ -99,13 +100,14 @@ uint8_t lvn_run(const uint8_t *record, size_t record_length, const uint8_t *stor
 
 /* Writes the record in version 2, whose ids have eight bytes, to the start of output: 0, a refusal of lvn_check, or 9.
  * answer: 0: the bytes written. 1 to 8: the offset of the first fault. 9: the bytes needed.
- * A record of version 2 comes out unchanged. A refusal leaves output as it was, and success leaves the bytes beyond the record as they were. Twice as
- * many bytes of output as of input are always enough. */
+ * A record of version 2 comes out unchanged. A refusal leaves output as it was, and success leaves the bytes beyond the record as they
+ * were. Two bytes of output for each byte of input are always enough. */
 uint8_t lvn_widen(const uint8_t *input, size_t input_length, uint8_t *output, size_t output_length, size_t *answer);
 
-/* Writes the record in version 1, whose ids have four bytes: as lvn_widen does, or 15 before 9.
- * answer: 15: the offset of the first instruction whose id is 2^32 or more.
- * A record of version 1 comes out unchanged. As many bytes of output as of input are always enough. */
+/* Writes the record in version 1, whose ids have four bytes, to the start of output: 0, a refusal of lvn_check, 15, or 9.
+ * answer: as lvn_widen leaves it. 15: the offset of the first instruction whose id is 2^32 or more.
+ * A record of version 1 comes out unchanged. What is left as it was is as with lvn_widen. As many bytes of output as of input are always
+ * enough. */
 uint8_t lvn_narrow(const uint8_t *input, size_t input_length, uint8_t *output, size_t output_length, size_t *answer);
 
 #ifdef __cplusplus

@@ -32,7 +32,15 @@ def figures(lvn, record):
     return "".join(line + "\n" for line in lines).encode()
 
 
-COMMANDS = {"check": check, "figures": figures}
+def widen(lvn, record):
+    return lvn.widen(record)
+
+
+def narrow(lvn, record):
+    return lvn.narrow(record)
+
+
+COMMANDS = {"check": check, "figures": figures, "widen": widen, "narrow": narrow}
 TOOL_OF = {"view": "recview", "asm": "recasm"}
 
 

@@ -1,4 +1,4 @@
-"""Local value numbering of Bril function records: check, rewrite, figures, name text and run, over the proved library.
+"""Local value numbering of Bril function records: check, rewrite, figures, name text, run, widen and narrow, over the proved library.
 
 A record is bytes, a bytearray, a memoryview or another buffer. One that is refused raises `Refused`, and then nothing is written.
 What the library answers is proved in crates/exports; include/lvn.h says it in words. Calls may run in several threads at once.
@@ -11,13 +11,14 @@ from typing import Any, List, NamedTuple, Tuple, Union
 import lvn_library
 
 __all__ = ["ENDS", "Ended", "Figures", "Part", "Ran", "Refused", "Rewritten", "Room", "Short", "TooFew", "Totals", "Unfit", "check", "figures",
-           "figures_into", "name_part", "name_text", "rewrite", "rewrite_into", "run", "run_into"]
+           "figures_into", "name_part", "name_text", "narrow", "narrow_into", "rewrite", "rewrite_into", "run", "run_into", "widen", "widen_into"]
 
 Bytes = Union[bytes, bytearray, memoryview]
 
 
 class Refused(Exception):
-    """The record is refused. number: 1 to 8 of check, 6 or 11 of name text. offset: where the fault is; 0 for those of name text."""
+    """The record is refused. number: 1 to 8 of check, 6 or 11 of name text, 15 of narrowing. offset: where the fault is; 0 for those of
+    name text."""
 
     def __init__(self, number: int, offset: int) -> None:
         super().__init__(number, offset)
@@ -28,7 +29,7 @@ class Refused(Exception):
 
 
 class Room(Exception):
-    """The output is too short (refusal 9). needed: the bytes of the rewriting."""
+    """The output is too short (refusal 9). needed: the bytes of what was to be written."""
 
     number = 9
 
@@ -154,6 +155,8 @@ _rewrite = _entry("lvn_rewrite", *_INPUT, *_LENT, ctypes.POINTER(_Rewritten))
 _figures = _entry("lvn_figures", *_INPUT, *_LENT, ctypes.POINTER(_Rewritten))
 _run = _entry("lvn_run", *_INPUT, *_INPUT, *_INPUT, ctypes.c_uint64, *_LENT, *_LENT, ctypes.POINTER(_Ran))
 _name_text = _entry("lvn_name_text", *_INPUT, *_INPUT, ctypes.c_size_t, ctypes.POINTER(_Named))
+_widen = _entry("lvn_widen", *_INPUT, *_LENT, ctypes.POINTER(ctypes.c_size_t))
+_narrow = _entry("lvn_narrow", *_INPUT, *_LENT, ctypes.POINTER(ctypes.c_size_t))
 
 
 def _bytes(buffer: Bytes) -> bytes:
@@ -161,8 +164,8 @@ def _bytes(buffer: Bytes) -> bytes:
     return buffer if isinstance(buffer, bytes) else memoryview(buffer).tobytes()
 
 
-def _written(entry: Any, record: Bytes, buffer: Any, item: Any) -> Tuple[int, int, int]:
-    """The number and the two values of an entry that writes to a lent buffer of such items.
+def _written(entry: Any, record: Bytes, buffer: Any, item: Any, answer: Any) -> int:
+    """The number of an entry that writes to a lent buffer of such items, and leaves its values in answer.
 
     The refusals are raised by its callers: where one is caught no frame holds the buffer, so that it can be made longer there.
     """
@@ -171,9 +174,7 @@ def _written(entry: Any, record: Bytes, buffer: Any, item: Any) -> Tuple[int, in
     lent = (item * count).from_buffer(buffer) if count else item()  # of no items too a pointer that is not null
     if ctypes.addressof(lent) % ctypes.alignment(item):
         raise ValueError("the buffer is not aligned for items of %d bytes" % ctypes.sizeof(item))
-    answer = _Rewritten()
-    number = entry(record, len(record), ctypes.byref(lent), count, ctypes.byref(answer))
-    return number, answer.count, answer.saves
+    return entry(record, len(record), ctypes.byref(lent), count, ctypes.byref(answer))
 
 
 def check(record: Bytes) -> None:
@@ -198,12 +199,13 @@ def rewrite_into(record: Bytes, output: Any) -> Totals:
 
     Raises Refused, or Room if output is too short; then all of output stays as it was.
     """
-    number, count, saves = _written(_rewrite, record, output, ctypes.c_uint8)
+    answer = _Rewritten()
+    number = _written(_rewrite, record, output, ctypes.c_uint8, answer)
     if number == Room.number:
-        raise Room(count)
+        raise Room(answer.count)
     if number:
-        raise Refused(number, count)
-    return Totals(count, saves)
+        raise Refused(number, answer.count)
+    return Totals(answer.count, answer.saves)
 
 
 def figures(record: Bytes) -> Figures:
@@ -222,12 +224,13 @@ def figures_into(record: Bytes, places: Any) -> Totals:
     """
     if memoryview(places).format.lstrip("@=<") != "H":
         raise TypeError("places of 16-bit numbers are needed, such as array('H')")
-    number, count, saves = _written(_figures, record, places, ctypes.c_uint16)
+    answer = _Rewritten()
+    number = _written(_figures, record, places, ctypes.c_uint16, answer)
     if number == TooFew.number:
         raise TooFew
     if number:
-        raise Refused(number, count)
-    return Totals(count, saves)
+        raise Refused(number, answer.count)
+    return Totals(answer.count, answer.saves)
 
 
 def name_part(record: Bytes, rewriting: Bytes, index: int) -> Part:
@@ -265,8 +268,8 @@ def _overlap(one: Any, count: int, two: Any, more: int) -> bool:
 def run_into(record: Bytes, store: Bytes, answers: Bytes, limit: int, events: Any, left: Any) -> Ended:
     """Runs a record from a starting store with a list of answers, both in the house form, for at most limit steps.
 
-    The events go to the start of one buffer, such as a bytearray, and the final store to that of another; the bytes beyond stay as they
-    were. Raises Refused, Unfit, or Short if a buffer is too short; then both stay as they were. Buffers that overlap are a ValueError.
+    The events go to the start of one buffer, such as a bytearray, with ids as wide as the record's, and the final store to that of
+    another; the bytes beyond stay as they were. Raises Refused, Unfit, or Short if a buffer is too short; then both stay as they were. Buffers that overlap are a ValueError.
     """
     record, store, answers, answer = _bytes(record), _bytes(store), _bytes(answers), _Ran()
     limit = operator.index(limit)
@@ -297,3 +300,42 @@ def run(record: Bytes, store: Bytes, answers: Bytes, limit: int = 2**64 - 1) -> 
         events = bytearray(short.events)
         done = run_into(record, store, answers, limit, events, left)
     return Ran(bytes(events[:done.events]), bytes(left[:done.store]), done.steps, ENDS[done.ended], done.id)
+
+
+def _converted(entry: Any, record: Bytes, output: Any) -> int:
+    answer = ctypes.c_size_t()
+    number = _written(entry, record, output, ctypes.c_uint8, answer)
+    if number == Room.number:
+        raise Room(answer.value)
+    if number:
+        raise Refused(number, answer.value)
+    return answer.value
+
+
+def widen(record: Bytes) -> bytes:
+    """The record in version 2, whose ids have eight bytes; one of version 2 is unchanged. Raises Refused."""
+    record = _bytes(record)
+    output = bytearray(2 * len(record))  # no widening is longer: an instruction of six bytes, the fewest, becomes one of ten
+    return bytes(output[:widen_into(record, output)])
+
+
+def widen_into(record: Bytes, output: Any) -> int:
+    """Writes the record in version 2 to the start of output, a buffer such as a bytearray: how many bytes it has. The bytes beyond stay as
+    they were.
+
+    Raises Refused, or Room if output is too short; then all of output stays as it was.
+    """
+    return _converted(_widen, record, output)
+
+
+def narrow(record: Bytes) -> bytes:
+    """The record in version 1, whose ids have four bytes; one of version 1 is unchanged. Raises Refused, with 15 if an id has no room there,
+    at the first such instruction."""
+    record = _bytes(record)
+    output = bytearray(len(record))  # no narrowing is longer than the record
+    return bytes(output[:narrow_into(record, output)])
+
+
+def narrow_into(record: Bytes, output: Any) -> int:
+    """As widen_into, in version 1. Raises Refused as narrow does, before Room."""
+    return _converted(_narrow, record, output)

@@ -155,6 +155,7 @@ class Bytes:
 
 
 def event_lines(data, width):
+    """width: the bytes of an id, which are as many as in the record."""
     found = Bytes(data)
     while found.at < len(data):
         id_, code, callee, count = found.number(width), found.number(1), found.number(2), found.number(1)
@@ -232,7 +233,8 @@ def shown(record, settings, answers, limit):
     if number:
         return 1, ["refused %d at %d" % (number, values[0])], NOTES.get(number)
     events, size, steps, ended, id_ = values
-    lines = [*event_lines(rest[:events], 4), *store_lines(rest[events:events + size], names)]
+    width = 8 if record[4] == 2 else 4  # by its version
+    lines = [*event_lines(rest[:events], width), *store_lines(rest[events:events + size], names)]
     return 0, [*lines, "steps %d" % steps, "ended by %s%s" % (ENDS[ended], " #%d" % id_ if ended == 4 else "")], None
 
 

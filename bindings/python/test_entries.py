@@ -56,6 +56,8 @@ def refusal(function, *lent):
 
 C1 = (TOP / "examples/c1.rec").read_bytes()
 C1_OUT = bytes.fromhex(lines("vectors/worked.txt")[0][2])
+C1_WIDE = bytes.fromhex("00000033 02 02 0003 000161 000162 000178 0001 0002 0000"
+                        "0000000000000007 01 0002 02 0000 0001 0000000000000008 01 0002 02 0001 0000")
 NONE = bytes.fromhex("00000006 01 00 0000 0000")  # no block
 NO_ITEMS = bytes.fromhex("00000001 01")  # a store of no names, or no answers
 
@@ -66,6 +68,7 @@ class Answers(unittest.TestCase):
         self.assertEqual(lvn.rewrite(C1), (C1_OUT, 1))
         self.assertEqual(lvn.figures(C1), (64, 1, [3]))
         self.assertEqual(lvn.name_text(C1, C1_OUT, 3), b"_x_lvn0")
+        self.assertEqual((lvn.widen(C1), lvn.narrow(C1_WIDE)), (C1_WIDE, C1))
 
     def test_no_block(self):
         self.assertEqual(lvn.rewrite(NONE), (NONE, 0))
@@ -161,6 +164,8 @@ class Buffers(unittest.TestCase):
             self.assertEqual(lvn.figures(lend(C1)), (64, 1, [3]))
             self.assertEqual(lvn.name_text(lend(C1), lend(C1_OUT), 0), b"a")
             self.assertEqual(lvn.name_text(lend(C1), lend(C1_OUT), 3), b"_x_lvn0")
+            self.assertEqual(lvn.widen(lend(C1)), C1_WIDE)
+            self.assertEqual(lvn.narrow(lend(C1_WIDE)), C1)
             self.assertEqual(refusal(lvn.check, lend(b"")), (1, 0))
             self.assertEqual(refusal(lvn.name_text, lend(C1), lend(b""), 0), (11, 0))
 
@@ -168,6 +173,8 @@ class Buffers(unittest.TestCase):
         for output in (bytearray(64), array("B", bytes(64)), array("Q", bytes(64)), (ctypes.c_uint8 * 64)()):
             self.assertEqual(lvn.rewrite_into(C1, output), (64, 1))
             self.assertEqual(bytes(output), C1_OUT)
+            self.assertEqual(lvn.widen_into(C1, output), 55)
+            self.assertEqual(bytes(output), C1_WIDE + C1_OUT[55:])
         for places in (array("H", [0]), memoryview(bytearray(2)).cast("H"), (ctypes.c_uint16 * 1)()):
             self.assertEqual(lvn.figures_into(C1, places), (64, 1))
             self.assertEqual(list(places), [3])
@@ -176,7 +183,8 @@ class Buffers(unittest.TestCase):
         for record in (None, 47, "text", [1, 2]):
             self.assertRaises(TypeError, lvn.check, record)
         for output in (bytes(64), memoryview(bytearray(128))[::2], [0] * 64, None):
-            self.assertRaises(TypeError, lvn.rewrite_into, C1, output)
+            for into in (lvn.rewrite_into, lvn.widen_into, lvn.narrow_into):
+                self.assertRaises(TypeError, into, C1, output)
         for places in (bytes(2), bytearray(2), array("h", [0]), array("I", [0]), memoryview(bytes(2)).cast("H"), [0], None):
             self.assertRaises(TypeError, lvn.figures_into, C1, places)
         odd = memoryview(bytearray(16))
@@ -188,9 +196,13 @@ class Buffers(unittest.TestCase):
         with memoryview(both) as view:
             self.assertEqual(lvn.rewrite_into(view[:len(C1)], view), (64, 1))
         self.assertEqual(both, C1_OUT + bytes([GUARD] * (len(C1) + 40 - 64)))
+        both[:55] = C1_WIDE
+        with memoryview(both) as view:
+            self.assertEqual(lvn.narrow_into(view[:55], view), 47)
+        self.assertEqual(both[:55], C1 + C1_WIDE[47:])
 
     def test_longer_where_caught(self):
-        output, places = bytearray(), array("H")
+        output, places, two = bytearray(), array("H"), bytearray()
         try:
             lvn.rewrite_into(C1, output)
         except lvn.Room as e:
@@ -199,7 +211,12 @@ class Buffers(unittest.TestCase):
             lvn.figures_into(C1, places)
         except lvn.TooFew:
             places.append(0)
+        try:
+            lvn.widen_into(C1, two)
+        except lvn.Room as e:
+            two.extend(bytes(e.needed))
         self.assertEqual((lvn.rewrite_into(C1, output), lvn.figures_into(C1, places)), ((64, 1), (64, 1)))
+        self.assertEqual((lvn.widen_into(C1, two), two), (55, C1_WIDE))
         output.append(0)
 
 
@@ -278,7 +295,7 @@ class Words(unittest.TestCase):
         self.addCleanup(os.chdir, os.getcwd())
         os.chdir(TOP)
         failed, tried = doctest.testfile(str(Path(__file__).with_name("README.md")), False, optionflags=doctest.IGNORE_EXCEPTION_DETAIL)
-        self.assertEqual((failed, tried), (0, 9))
+        self.assertEqual((failed, tried), (0, 11))
 
     def test_every_entry_is_described(self):
         for name in lvn.__all__:

@@ -4,6 +4,8 @@
 
 use std::{error, fmt};
 
+mod raw;
+
 /// A refusal's number and offset: 1 to 8 of check; 6 and 11, at offset 0, of
 /// name text.
 #[derive(Clone, Copy, Debug, PartialEq, Eq)]
@@ -124,77 +126,29 @@ impl fmt::Display for NotRun {
 
 impl error::Error for NotRun {}
 
-mod raw {
-    #[repr(C)]
-    #[derive(Default)]
-    pub struct Ran {
-        pub events: u64,
-        pub store: u64,
-        pub steps: u64,
-        pub ended: u64,
-        pub id: u64,
-    }
+/// Why a record was not widened or narrowed.
+#[derive(Clone, Copy, Debug, PartialEq, Eq)]
+pub enum Unconverted {
+    /// The record is refused.
+    Refused(Refused),
+    /// In narrowing: the offset of the first instruction whose id is 2^32 or
+    /// more: refusal 15.
+    Wide(usize),
+    /// The output is shorter than this, the bytes needed.
+    Room(usize),
+}
 
-    #[repr(C)]
-    #[derive(Default)]
-    pub struct Rewritten {
-        pub count: usize,
-        pub saves: usize,
-    }
-
-    #[repr(C)]
-    #[derive(Default)]
-    pub struct Named {
-        pub offset: usize,
-        pub in_rewriting: usize,
-        pub from: usize,
-        pub count: usize,
-    }
-
-    extern "C" {
-        pub fn lvn_check(input: *const u8, length: usize, offset: *mut usize) -> u8;
-
-        pub fn lvn_rewrite(
-            input: *const u8,
-            input_length: usize,
-            output: *mut u8,
-            output_length: usize,
-            answer: *mut Rewritten,
-        ) -> u8;
-
-        pub fn lvn_figures(
-            input: *const u8,
-            input_length: usize,
-            figures: *mut u16,
-            figures_length: usize,
-            answer: *mut Rewritten,
-        ) -> u8;
-
-        pub fn lvn_name_text(
-            input: *const u8,
-            input_length: usize,
-            rewriting: *const u8,
-            rewriting_length: usize,
-            index: usize,
-            answer: *mut Named,
-        ) -> u8;
-
-        pub fn lvn_run(
-            record: *const u8,
-            record_length: usize,
-            store: *const u8,
-            store_length: usize,
-            answers: *const u8,
-            answers_length: usize,
-            limit: u64,
-            events: *mut u8,
-            events_length: usize,
-            final_store: *mut u8,
-            final_length: usize,
-            answer: *mut Ran,
-        ) -> u8;
+impl fmt::Display for Unconverted {
+    fn fmt(&self, f: &mut fmt::Formatter) -> fmt::Result {
+        match self {
+            Unconverted::Refused(refused) => refused.fmt(f),
+            Unconverted::Wide(offset) => write!(f, "refused 15 at {offset}"),
+            Unconverted::Room(bytes) => write!(f, "the output needs {bytes} bytes"),
+        }
     }
 }
+
+impl error::Error for Unconverted {}
 
 /// Whether the bytes are the record of a function, or the first fault.
 pub fn check(input: &[u8]) -> Result<(), Refused> {
@@ -283,9 +237,9 @@ pub fn name_text<'a>(input: &'a [u8], rewriting: &'a [u8], index: usize) -> Resu
 
 /// Runs the function of a record on the plain machine, from a starting store
 /// and with a list of answers, both in the house form, for at most `limit`
-/// steps. The events go to the start of `events`, the final store to that of
-/// `left`. Otherwise both stay as they were; the bytes beyond stay as they
-/// were in any case.
+/// steps. The events go to the start of `events`, with ids as wide as the
+/// record's, the final store to that of `left`. Otherwise both stay as they
+/// were; the bytes beyond stay as they were in any case.
 pub fn run(
     record: &[u8],
     store: &[u8],
@@ -341,4 +295,51 @@ fn ending(answer: &raw::Ran) -> Ending {
         4 => Ending::Division(answer.id),
         _ => Ending::Limit,
     }
+}
+
+/// What `widen` and `narrow` have in common: the number, and the value left.
+fn converted(number: u8, value: usize) -> Result<usize, Unconverted> {
+    match number {
+        0 => Ok(value),
+        9 => Err(Unconverted::Room(value)),
+        15 => Err(Unconverted::Wide(value)),
+        _ => Err(Unconverted::Refused(Refused { number, offset: value })),
+    }
+}
+
+/// Writes a record in version 2, whose ids have eight bytes, to the start of
+/// `output`: how many bytes. One of version 2 is unchanged. Otherwise `output`
+/// stays as it was; the bytes beyond stay as they were in any case.
+pub fn widen(input: &[u8], output: &mut [u8]) -> Result<usize, Unconverted> {
+    let mut answer = 0;
+    let (from, to) = (input.as_ptr(), output.as_mut_ptr());
+    // SAFETY: as for rewrite.
+    let number = unsafe { raw::lvn_widen(from, input.len(), to, output.len(), &mut answer) };
+    converted(number, answer)
+}
+
+/// As `widen`, in version 1, whose ids have four bytes. One of version 1 is
+/// unchanged.
+pub fn narrow(input: &[u8], output: &mut [u8]) -> Result<usize, Unconverted> {
+    let mut answer = 0;
+    let (from, to) = (input.as_ptr(), output.as_mut_ptr());
+    // SAFETY: as for rewrite.
+    let number = unsafe { raw::lvn_narrow(from, input.len(), to, output.len(), &mut answer) };
+    converted(number, answer)
+}
+
+/// A record in version 2.
+pub fn widened(input: &[u8]) -> Result<Vec<u8>, Unconverted> {
+    let mut output = vec![0; 2 * input.len()]; // an instruction of six bytes, the fewest, becomes one of ten
+    let bytes = widen(input, &mut output)?;
+    output.truncate(bytes);
+    Ok(output)
+}
+
+/// A record in version 1.
+pub fn narrowed(input: &[u8]) -> Result<Vec<u8>, Unconverted> {
+    let mut output = vec![0; input.len()]; // no narrowing is longer than the record
+    let bytes = narrow(input, &mut output)?;
+    output.truncate(bytes);
+    Ok(output)
 }
