@@ -2,7 +2,7 @@
 //! every kind, random ones, and damaged copies, until a count or a time is reached.
 
 use crate::damage::damaged;
-use crate::function::{Encoded, Function, CODES};
+use crate::function::{Encoded, Function, CODES, WIDE};
 use crate::generate::Generator;
 use crate::one::{self, hex, Division, Lent, Same};
 use crate::{rows, small};
@@ -85,6 +85,9 @@ struct Tally {
     every_k: u64,
     small: Vec<Family>,
     random: u64,
+    /// Functions of version 2 with all ids below 2^32, and the others.
+    narrow_ids: u64,
+    wide_ids: u64,
     /// Damaged copies that are accepted all the same.
     still_accepted: u64,
     panics: Panics,
@@ -99,6 +102,16 @@ impl Tally {
     fn accepted(&self) -> u64 {
         let small: u64 = self.small.iter().map(|family| family.compared).sum();
         self.every_k + small + self.random + self.still_accepted
+    }
+
+    /// Counts the version of a function, and whether all its ids have room in version 1.
+    fn version(&mut self, f: &Function) {
+        let wide = f.blocks.iter().flatten().any(|i| i.id >= WIDE);
+        match (f.wide, wide) {
+            (false, _) => {}
+            (true, false) => self.narrow_ids += 1,
+            (true, true) => self.wide_ids += 1,
+        }
     }
 
     fn sizes(&mut self, f: &Function, record: usize) {
@@ -151,6 +164,7 @@ impl Compare {
     fn function(&mut self, f: &Function, encoded: &mut Encoded) -> bool {
         encoded.fill(f);
         self.tally.sizes(f, encoded.bytes.len());
+        self.tally.version(f);
         let refused: u64 = self.tally.refused.iter().sum();
         let same = self.record(&encoded.bytes);
         if self.tally.refused.iter().sum::<u64>() > refused {
@@ -233,6 +247,10 @@ fn summary(c: &mut Compare, options: &Options, time: Duration) {
     println!("  {} with gt or ge, {} of which it writes otherwise, {} with more comparisons", u.with, u.otherwise, u.shared);
     println!("figures as in the rewriting: {} with as many places as blocks, {} with more;", p.exact, p.more);
     println!("  {} refusals 12 with fewer, {} refusals of check; between guard places", p.fewer, p.refused);
+    let v = &c.lent.versions;
+    println!("of version 2 {} functions with all ids below 2^32, {} with others", t.narrow_ids, t.wide_ids);
+    println!("  {} records widened and narrowed again, {} narrowed and widened again, each rewritten, counted and named alike in both;", v.widened, v.narrowed);
+    println!("  {} unchanged; refusals: 15 {}, 9 {}, check's {}; between guard bytes", v.unchanged, v.wide, v.short, v.refused);
     println!("{} saves; instructions of each code, terminators last:", t.saves);
     let counts: Vec<String> =
         CODES.iter().map(|code| format!("{code}: {}", t.codes[usize::from(*code)])).collect();

@@ -6,6 +6,7 @@
 mod bench;
 mod clock;
 mod compare;
+mod conversions;
 mod cut;
 mod damage;
 mod engine;
@@ -19,14 +20,17 @@ mod interpret;
 mod number;
 mod one;
 mod phis;
+mod plain;
 mod profiles;
 mod rng;
 mod rows;
 mod runs;
+mod rust;
 mod second;
 mod small;
 mod timed_runs;
 mod unaltered;
+mod versions;
 mod worlds;
 
 use std::io::{self, Read};
