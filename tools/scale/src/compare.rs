@@ -5,6 +5,7 @@ use crate::damage::damaged;
 use crate::function::{Encoded, Function, CODES, WIDE};
 use crate::generate::Generator;
 use crate::one::{self, hex, Division, Lent, Same};
+use crate::versions::Versions;
 use crate::{rows, small};
 use std::time::{Duration, Instant};
 
@@ -226,6 +227,18 @@ fn progress(t: &Tally, time: Duration) {
     eprintln!("{seconds} s: {accepted} functions, {refused} refusals, {} differ", t.differ);
 }
 
+fn versions(t: &Tally, v: &Versions) {
+    println!("{} functions of version 2 with all ids below 2^32, {} with others", t.narrow_ids, t.wide_ids);
+    println!(
+        "{} records widened and narrowed again, {} narrowed and widened again, each rewritten, counted and named alike in both;",
+        v.widened, v.narrowed
+    );
+    println!(
+        "  {} left as they are; refusals 15: {}, 9: {}, check's: {}; between guard bytes",
+        v.unchanged, v.wide, v.short, v.refused
+    );
+}
+
 fn summary(c: &mut Compare, options: &Options, time: Duration) {
     let (t, l) = (&c.tally, &c.tally.largest);
     println!("seed {}, {:.1} s", options.seed, time.as_secs_f64());
@@ -247,10 +260,7 @@ fn summary(c: &mut Compare, options: &Options, time: Duration) {
     println!("  {} with gt or ge, {} of which it writes otherwise, {} with more comparisons", u.with, u.otherwise, u.shared);
     println!("figures as in the rewriting: {} with as many places as blocks, {} with more;", p.exact, p.more);
     println!("  {} refusals 12 with fewer, {} refusals of check; between guard places", p.fewer, p.refused);
-    let v = &c.lent.versions;
-    println!("of version 2 {} functions with all ids below 2^32, {} with others", t.narrow_ids, t.wide_ids);
-    println!("  {} records widened and narrowed again, {} narrowed and widened again, each rewritten, counted and named alike in both;", v.widened, v.narrowed);
-    println!("  {} unchanged; refusals: 15 {}, 9 {}, check's {}; between guard bytes", v.unchanged, v.wide, v.short, v.refused);
+    versions(t, &c.lent.versions);
     println!("{} saves; instructions of each code, terminators last:", t.saves);
     let counts: Vec<String> =
         CODES.iter().map(|code| format!("{code}: {}", t.codes[usize::from(*code)])).collect();

@@ -1,7 +1,7 @@
 //! Random accepted functions: all codes, all sizes up to the limits. Names and
 //! literals are few, so that values meet again and constants fold.
 
-use crate::function::{targets, Function, Instr, BOOL, CHAR, FLOAT, INT, WIDE, PHI, POINTER};
+use crate::function::{targets, Function, Instr, BOOL, CHAR, FLOAT, INT, PHI, POINTER, WIDE};
 use crate::profiles::{Profile, ALL, COMPARISONS, DIVISIONS, PHIS, PROFILES};
 use crate::rng::Rng;
 use crate::second;

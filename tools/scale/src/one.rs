@@ -109,7 +109,8 @@ fn in_both_versions(bytes: &[u8], rewriting: &[u8], lent: &mut Lent) -> Result<(
     };
     let what = |what: String| format!("in version {}, {}: {what}", form[4], hex(&form));
     as_fault(lvn::check(&form)).map_err(|fault| what(format!("check: {fault:?}")))?;
-    let converted = plain::converted(rewriting, form[4]).map_err(|at| what(format!("an id of its rewriting at {at} has no room")))?;
+    let no_room = |at| what(format!("an id of its rewriting at {at} has no room"));
+    let converted = plain::converted(rewriting, form[4]).map_err(no_room)?;
     rewritten(&form, &converted, lent).map_err(what)?;
     names(&form, &converted).map_err(what)
 }

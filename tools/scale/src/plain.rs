@@ -3,7 +3,7 @@
 //! to be one that check accepts, or a rewriting of one; that is not tested.
 
 use crate::cut;
-use crate::function::{id_bytes, mend_length, WIDE};
+use crate::function::{id_bytes, mend_length};
 
 /// A record that is read, and what is written of it.
 struct Copy<'a> {
@@ -21,28 +21,25 @@ impl Copy<'_> {
         self.to += count;
     }
 
-    fn id(&mut self, width: usize) -> u64 {
-        let part = &self.record[self.at..self.at + width];
-        self.at += width;
-        match part.try_into() {
-            Ok(four) => u32::from_be_bytes(four).into(),
-            Err(_) => u64::from_be_bytes(part.try_into().expect("eight bytes")),
-        }
+    fn take<const WIDTH: usize>(&mut self) -> [u8; WIDTH] {
+        self.at += WIDTH;
+        self.record[self.at - WIDTH..self.at].try_into().expect("so many bytes")
     }
 
-    fn put_id(&mut self, width: usize, id: u64) {
-        self.out[self.to..self.to + width].copy_from_slice(&id.to_be_bytes()[8 - width..]);
-        self.to += width;
+    fn put<const WIDTH: usize>(&mut self, bytes: [u8; WIDTH]) {
+        self.to += WIDTH;
+        self.out[self.to - WIDTH..self.to].copy_from_slice(&bytes);
     }
 
     /// An instruction; or its offset, if its id has no room.
     fn instr(&mut self, from: usize, to: usize) -> Result<(), usize> {
         let start = self.at;
-        let id = self.id(from);
-        if to == 4 && id >= WIDE {
-            return Err(start);
+        let id = if from == 4 { u32::from_be_bytes(self.take()).into() } else { u64::from_be_bytes(self.take()) };
+        match u32::try_from(id) {
+            _ if to == 8 => self.put(id.to_be_bytes()),
+            Ok(id) => self.put(id.to_be_bytes()),
+            Err(_) => return Err(start),
         }
-        self.put_id(to, id);
         self.bytes(cut::end_of(self.record, self.at) - self.at);
         Ok(())
     }

@@ -2,6 +2,7 @@
 
 use crate::function::{encode, Function, Instr, INT, PHI};
 use crate::generate::{Generator, Size};
+use crate::plain;
 use crate::rng::Rng;
 use oracle::{Answer, Rust};
 
@@ -14,6 +15,8 @@ pub struct Row {
     pub phis: bool,
     /// Whether outputs that have just the bytes needed, and one too few, are timed too.
     pub tight: bool,
+    /// Whether it is timed in both versions.
+    pub both: bool,
 }
 
 impl Row {
@@ -24,7 +27,18 @@ impl Row {
             instructions: functions.iter().flat_map(|f| &f.blocks).map(Vec::len).sum(),
             phis: functions.iter().flat_map(|f| &f.blocks).flatten().any(|i| i.code == PHI),
             tight: false,
+            both: false,
         }
+    }
+
+    fn both(self) -> Row {
+        Row { both: true, ..self }
+    }
+
+    /// The same records in version 2.
+    pub fn wide(&self) -> Row {
+        let wide = |r: &Vec<u8>| plain::converted(r, 2).expect("version 2 has room for every id");
+        Row { records: self.records.iter().map(wide).collect(), name: self.name.clone(), ..*self }
     }
 
     fn tight(self) -> Row {
@@ -130,17 +144,17 @@ fn one_mark() -> Function {
 pub fn rows(seed: u64) -> Vec<Row> {
     let mut rng = Rng::new(seed);
     let mut all = vec![
-        Row::new("C1", &[c1()]).tight(),
+        Row::new("C1", &[c1()]).tight().both(),
         Row::new("512 saves", &[saves(2)]).tight(),
-        Row::new("64 blocks of 256", &[random_ints(&mut rng, 2, 64, 8, 64, 256)]).tight(),
+        Row::new("64 blocks of 256", &[random_ints(&mut rng, 2, 64, 8, 64, 256)]).tight().both(),
         Row::new("256 names", &[random_ints(&mut rng, 2, 256, 32, 1, 256)]).tight(),
-        Row::new("many small", &many_small(seed)).tight(),
-        Row::new("4096 nops", &[nops()]),
+        Row::new("many small", &many_small(seed)).tight().both(),
+        Row::new("4096 nops", &[nops()]).both(),
         Row::new("64 empty blocks", &[empty_blocks()]),
         Row::new("smallest", &[Function::default()]),
         Row::new("values found late", &[found_late()]),
         Row::new("256 names, one mark", &[one_mark()]),
-        Row::new("4096 phis of 8", &[phis_of_eight()]),
+        Row::new("4096 phis of 8", &[phis_of_eight()]).both(),
         Row::new("4096 phis of none, saved", &[phis_of_none(16)]),
     ];
     // Over arguments alone, so that nearly every instruction makes a save, whatever n is.
@@ -148,4 +162,15 @@ pub fn rows(seed: u64) -> Vec<Row> {
         all.push(Row::new(&format!("16 blocks of {n}"), &[random_ints(&mut rng, 16, 16, 8, 16, n)]));
     }
     all
+}
+
+/// A record of 16 blocks of 256 of all codes but phi.
+fn mixed(seed: u64) -> Row {
+    let size = Size { names: 64, args: 4, blocks: 16, body: 256, full: true };
+    Row::new("16 blocks of 256, mixed codes", &[Generator::new(seed).mixed(&size)])
+}
+
+/// The records that are timed in both versions.
+pub fn rows_of_both(seed: u64) -> impl Iterator<Item = Row> {
+    rows(seed).into_iter().filter(|row| row.both).chain([mixed(seed)])
 }

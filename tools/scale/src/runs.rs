@@ -265,7 +265,10 @@ fn summary(runs: &Runs, seed: u64, seconds: f64) {
     println!("  done as by the plain interpreter: end {end}, ret {ret}, halt {halt}, unset {unset}, division {division}, limit {limit};");
     println!("  {} steps and {} bytes of events; 13: {}, check's refusals: {};", t.steps, t.events, t.unfit, t.refused);
     println!("  lent exactly enough, more, none and a byte too little, between guard bytes; 14: {}", t.short);
-    println!("  {} also with the record widened, {} with it narrowed, alike but for the width of an event's id", t.widened, t.narrowed);
+    println!(
+        "  {} also with the record widened, {} with it narrowed: alike but for the width of an event's id",
+        t.widened, t.narrowed
+    );
     println!("  demand 3: {} of these runs and those of the rewritings alike, with {} saves", t.paired, t.saves);
     if let Some((c, what)) = &runs.smallest {
         println!("smallest that differs: record, store, answers, limit");
