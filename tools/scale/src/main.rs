@@ -25,7 +25,6 @@ mod profiles;
 mod rng;
 mod rows;
 mod runs;
-mod rust;
 mod second;
 mod small;
 mod timed_runs;

@@ -6,7 +6,7 @@ use crate::guarded::Guarded;
 use crate::phis::Phis;
 use crate::unaltered::Unaltered;
 use crate::versions::Versions;
-use crate::{cut, number, plain, rust, second};
+use crate::{cut, number, plain, second};
 use lvn::{Refused, Unwritten, Written};
 use oracle::{Answer, Rust};
 
@@ -63,7 +63,7 @@ pub fn compare(bytes: &[u8], lent: &mut Lent) -> Result<Same, String> {
         refused(bytes, Refused { number, offset }, lent)?;
         return Ok(Same::Refused(number));
     }
-    let answer = rust::rewrite(Rust::Altered, bytes);
+    let answer = oracle::rewrite(Rust::Altered, bytes);
     lent.unaltered.ask(bytes, &answer)?;
     let second = number::rewriting(bytes);
     let same = accepted(bytes, &second, answer, lent)?;
@@ -190,7 +190,7 @@ fn names(bytes: &[u8], rewriting: &[u8]) -> Result<(), String> {
 /// be asked for more.
 fn division(bytes: &[u8], whole: &[u8], lent: &mut Lent) -> Result<Division, String> {
     let places = cut::places(bytes);
-    let rust = |record: &[u8]| rust::rewrite(Rust::Altered, record);
+    let rust = |record: &[u8]| oracle::rewrite(Rust::Altered, record);
     let at = places.partition_point(|p| rust(&cut::up_to(bytes, *p, true)) != Answer::Panic);
     let first = places[at];
     let before = cut::up_to(bytes, first, false);

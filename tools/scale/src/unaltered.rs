@@ -1,6 +1,6 @@
 //! The unaltered Rust beside the altered one. On a function without gt and ge it is a yardstick too: both must answer the same.
 
-use crate::{cut, rust};
+use crate::cut;
 use oracle::{Answer, Rust};
 
 /// How often the unaltered Rust was asked, and what it answered.
@@ -23,7 +23,7 @@ fn comparisons(rewriting: &[u8]) -> usize {
 impl Unaltered {
     /// Asks for an accepted record, whose answer by the altered Rust this is.
     pub fn ask(&mut self, bytes: &[u8], altered: &Answer) -> Result<(), String> {
-        let answer = rust::rewrite(Rust::Unaltered, bytes);
+        let answer = oracle::rewrite(Rust::Unaltered, bytes);
         let same = answer == *altered;
         if cut::codes(bytes).any(|code| code == 7 || code == 9) {
             self.with += 1;
