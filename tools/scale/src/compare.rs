@@ -87,8 +87,10 @@ struct Tally {
     small: Vec<Family>,
     random: u64,
     /// Functions of version 2 with all ids below 2^32, and the others.
-    narrow_ids: u64,
-    wide_ids: u64,
+    narrow: u64,
+    wide: u64,
+    /// Their ids of 2^32-1, of 2^32, of 2^64-1, and others above 2^32.
+    ids: [u64; 4],
     /// Damaged copies that are accepted all the same.
     still_accepted: u64,
     panics: Panics,
@@ -105,13 +107,20 @@ impl Tally {
         self.every_k + small + self.random + self.still_accepted
     }
 
-    /// Counts the version of a function, and whether all its ids have room in version 1.
+    /// Counts the version of a function, whether all its ids have room in version 1, and its ids at the edges.
     fn version(&mut self, f: &Function) {
-        let wide = f.blocks.iter().flatten().any(|i| i.id >= WIDE);
-        match (f.wide, wide) {
-            (false, _) => {}
-            (true, false) => self.narrow_ids += 1,
-            (true, true) => self.wide_ids += 1,
+        if !f.wide {
+            return;
+        }
+        let ids = || f.blocks.iter().flatten().map(|i| i.id);
+        *(if ids().any(|id| id >= WIDE) { &mut self.wide } else { &mut self.narrow }) += 1;
+        for id in ids() {
+            match id {
+                u64::MAX => self.ids[2] += 1,
+                WIDE => self.ids[1] += 1,
+                _ if id == WIDE - 1 => self.ids[0] += 1,
+                _ => self.ids[3] += u64::from(id > WIDE),
+            }
         }
     }
 
@@ -228,7 +237,9 @@ fn progress(t: &Tally, time: Duration) {
 }
 
 fn versions(t: &Tally, v: &Versions) {
-    println!("{} functions of version 2 with all ids below 2^32, {} with others", t.narrow_ids, t.wide_ids);
+    let [last, first, most, others] = t.ids;
+    println!("{} functions of version 2 with all ids below 2^32, {} with others; ids:", t.narrow, t.wide);
+    println!("  2^32-1 {last} times, 2^32 {first} times, 2^64-1 {most} times, {others} others above 2^32");
     println!(
         "{} records widened and narrowed again, {} narrowed and widened again, each rewritten, counted and named alike in both;",
         v.widened, v.narrowed
