@@ -1,12 +1,12 @@
 //! Times check, rewrite and figures, the altered Rust's `lvn`, alone and with decoding and encoding, and the hand port where
-//! it is there, on the same records in one run; then the engine.
+//! it is there, on the same records in one run; then both versions, and the engine.
 
 use crate::clock::{middle, middles, now};
 use crate::cut;
 use crate::handport::{hand_port, HandPort};
 use crate::one::{self, hex, Lent};
 use crate::rows::{rows, Row};
-use crate::timed_runs;
+use crate::{timed_runs, timed_versions};
 use lvn::{Unwritten, Written};
 use oracle::{reader, writer, Rust};
 use std::hint::black_box;
@@ -17,12 +17,12 @@ fn repeats(row: &Row) -> usize {
 }
 
 /// How many calls there are between two looks at the clock.
-fn calls(row: &Row) -> f64 {
+pub fn calls(row: &Row) -> f64 {
     (repeats(row) * row.records.len()) as f64
 }
 
 /// A turn: a call for each record of a row, repeated.
-fn turn<'a>(row: &'a Row, mut call: impl FnMut(usize, &[u8]) + 'a) -> impl FnMut() -> i64 + 'a {
+pub fn turn<'a>(row: &'a Row, mut call: impl FnMut(usize, &[u8]) + 'a) -> impl FnMut() -> i64 + 'a {
     move || {
         let start = now();
         for _ in 0..repeats(row) {
@@ -33,7 +33,7 @@ fn turn<'a>(row: &'a Row, mut call: impl FnMut(usize, &[u8]) + 'a) -> impl FnMut
 }
 
 /// The middle time of a call over all records of a row, for one record.
-fn rounds(row: &Row, seconds: u64, call: impl FnMut(usize, &[u8])) -> f64 {
+pub fn rounds(row: &Row, seconds: u64, call: impl FnMut(usize, &[u8])) -> f64 {
     middle(seconds, turn(row, call)) / calls(row)
 }
 
@@ -177,7 +177,7 @@ struct Times {
 }
 
 /// A line of the table.
-fn line(cells: &[String]) {
+pub fn line(cells: &[String]) {
     println!("| {} |", cells.join(" | "));
 }
 
@@ -287,7 +287,7 @@ pub fn run(seed: u64, seconds: u64) -> bool {
         last.1 / first.1
     );
     print_figures(&figures);
-    timed_runs::run(seconds)
+    timed_versions::run(seed, seconds) && timed_runs::run(seconds)
 }
 
 /// What figures takes beside rewrite with a long output, where most; and the rows in which it takes longer, by a hundredth at least.

@@ -54,13 +54,23 @@ pub fn middle(seconds: u64, mut turn: impl FnMut() -> i64) -> f64 {
     middle_of(all)
 }
 
-/// The same of two that alternate, so that whatever slows the machine for a while slows both.
-pub fn middles(seconds: u64, mut one: impl FnMut() -> i64, mut other: impl FnMut() -> i64) -> (f64, f64) {
+/// What is timed again and again; it gives the time it took.
+pub type Turn<'a> = Box<dyn FnMut() -> i64 + 'a>;
+
+/// The same of some that alternate, over so many seconds for each, so that whatever slows the machine for a while slows all.
+pub fn middles_of(seconds: u64, turns: &mut [Turn]) -> Vec<f64> {
     let start = Instant::now();
-    let (mut ones, mut others) = (vec![one()], vec![other()]);
-    while start.elapsed() < Duration::from_secs(2 * seconds) {
-        ones.push(placed(ones.len(), &mut one));
-        others.push(placed(others.len(), &mut other));
+    let mut all: Vec<Vec<i64>> = turns.iter_mut().map(|turn| vec![turn()]).collect();
+    while start.elapsed() < Duration::from_secs(turns.len() as u64 * seconds) {
+        for (found, turn) in all.iter_mut().zip(turns.iter_mut()) {
+            found.push(placed(found.len(), turn));
+        }
     }
-    (middle_of(ones), middle_of(others))
+    all.into_iter().map(middle_of).collect()
+}
+
+/// The same of two.
+pub fn middles(seconds: u64, one: impl FnMut() -> i64, other: impl FnMut() -> i64) -> (f64, f64) {
+    let found = middles_of(seconds, &mut [Box::new(one), Box::new(other)]);
+    (found[0], found[1])
 }

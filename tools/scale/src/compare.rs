@@ -2,9 +2,10 @@
 //! every kind, random ones, and damaged copies, until a count or a time is reached.
 
 use crate::damage::damaged;
-use crate::function::{Encoded, Function, CODES};
+use crate::function::{Encoded, Function, CODES, WIDE};
 use crate::generate::Generator;
 use crate::one::{self, hex, Division, Lent, Same};
+use crate::versions::Versions;
 use crate::{rows, small};
 use std::time::{Duration, Instant};
 
@@ -85,6 +86,11 @@ struct Tally {
     every_k: u64,
     small: Vec<Family>,
     random: u64,
+    /// Functions of version 2 with all ids below 2^32, and the others.
+    narrow: u64,
+    wide: u64,
+    /// Their ids of 2^32-1, of 2^32, of 2^64-1, and others above 2^32.
+    ids: [u64; 4],
     /// Damaged copies that are accepted all the same.
     still_accepted: u64,
     panics: Panics,
@@ -99,6 +105,23 @@ impl Tally {
     fn accepted(&self) -> u64 {
         let small: u64 = self.small.iter().map(|family| family.compared).sum();
         self.every_k + small + self.random + self.still_accepted
+    }
+
+    /// Counts the version of a function, whether all its ids have room in version 1, and its ids at the edges.
+    fn version(&mut self, f: &Function) {
+        if !f.wide {
+            return;
+        }
+        let ids = || f.blocks.iter().flatten().map(|i| i.id);
+        *(if ids().any(|id| id >= WIDE) { &mut self.wide } else { &mut self.narrow }) += 1;
+        for id in ids() {
+            match id {
+                u64::MAX => self.ids[2] += 1,
+                WIDE => self.ids[1] += 1,
+                _ if id == WIDE - 1 => self.ids[0] += 1,
+                _ => self.ids[3] += u64::from(id > WIDE),
+            }
+        }
     }
 
     fn sizes(&mut self, f: &Function, record: usize) {
@@ -151,6 +174,7 @@ impl Compare {
     fn function(&mut self, f: &Function, encoded: &mut Encoded) -> bool {
         encoded.fill(f);
         self.tally.sizes(f, encoded.bytes.len());
+        self.tally.version(f);
         let refused: u64 = self.tally.refused.iter().sum();
         let same = self.record(&encoded.bytes);
         if self.tally.refused.iter().sum::<u64>() > refused {
@@ -212,6 +236,20 @@ fn progress(t: &Tally, time: Duration) {
     eprintln!("{seconds} s: {accepted} functions, {refused} refusals, {} differ", t.differ);
 }
 
+fn versions(t: &Tally, v: &Versions) {
+    let [last, first, most, others] = t.ids;
+    println!("{} functions of version 2 with all ids below 2^32, {} with others; ids:", t.narrow, t.wide);
+    println!("  2^32-1 {last} times, 2^32 {first} times, 2^64-1 {most} times, {others} others above 2^32");
+    println!(
+        "{} records widened and narrowed again, {} narrowed and widened again, each rewritten, counted and named alike in both;",
+        v.widened, v.narrowed
+    );
+    println!(
+        "  {} left as they are; refusals 15: {}, 9: {}, check's: {}; between guard bytes",
+        v.unchanged, v.wide, v.short, v.refused
+    );
+}
+
 fn summary(c: &mut Compare, options: &Options, time: Duration) {
     let (t, l) = (&c.tally, &c.tally.largest);
     println!("seed {}, {:.1} s", options.seed, time.as_secs_f64());
@@ -233,6 +271,7 @@ fn summary(c: &mut Compare, options: &Options, time: Duration) {
     println!("  {} with gt or ge, {} of which it writes otherwise, {} with more comparisons", u.with, u.otherwise, u.shared);
     println!("figures as in the rewriting: {} with as many places as blocks, {} with more;", p.exact, p.more);
     println!("  {} refusals 12 with fewer, {} refusals of check; between guard places", p.fewer, p.refused);
+    versions(t, &c.lent.versions);
     println!("{} saves; instructions of each code, terminators last:", t.saves);
     let counts: Vec<String> =
         CODES.iter().map(|code| format!("{code}: {}", t.codes[usize::from(*code)])).collect();

@@ -1,25 +1,28 @@
-//! Accepted records made smaller: without an instruction, or only as far as one; and the instructions of each block.
+//! Accepted records made smaller: without an instruction, or only as far as one; and the instructions of each block. Of either version.
 
-use crate::function::{has_callee, has_dest, mend_length, targets};
+use crate::function::{has_callee, has_dest, id_bytes, mend_length, targets};
 
 /// An instruction of a record: the offset of its block's count, its place in
-/// the block, where it starts and ends, and how many blocks follow.
+/// the block, where it starts, where its code stands and where it ends, and how
+/// many blocks follow.
 #[derive(Clone, Copy)]
 pub struct Place {
     pub body: usize,
     pub index: usize,
     pub start: usize,
+    pub code: usize,
     pub end: usize,
     pub behind: usize,
 }
 
-fn two(bytes: &[u8], at: usize) -> usize {
+pub fn two(bytes: &[u8], at: usize) -> usize {
     usize::from(bytes[at]) * 256 + usize::from(bytes[at + 1])
 }
 
-fn end_of(bytes: &[u8], start: usize) -> usize {
-    let code = bytes[start + 4];
-    let at = start + 5 + if has_dest(code) { 2 } else { 0 };
+/// Where the instruction with a code at this place ends.
+pub fn end_of(bytes: &[u8], at: usize) -> usize {
+    let code = bytes[at];
+    let at = at + 1 + if has_dest(code) { 2 } else { 0 };
     if code == 0 {
         return at + 9;
     }
@@ -28,7 +31,7 @@ fn end_of(bytes: &[u8], start: usize) -> usize {
 }
 
 /// Where the names of a record end.
-fn names_end(bytes: &[u8]) -> usize {
+pub fn names_end(bytes: &[u8]) -> usize {
     (0..two(bytes, 6)).fold(8, |at, _| at + 2 + usize::from(bytes[at + 1]))
 }
 
@@ -42,9 +45,9 @@ pub fn places(bytes: &[u8]) -> Vec<Place> {
         let body = at;
         at += 4;
         for index in 0..two(bytes, body) {
-            let (start, end) = (at, end_of(bytes, at));
-            found.push(Place { body, index, start, end, behind: count - block - 1 });
-            at = end;
+            let (start, code) = (at, at + id_bytes(bytes));
+            at = end_of(bytes, code);
+            found.push(Place { body, index, start, code, end: at, behind: count - block - 1 });
         }
     }
     found
@@ -52,7 +55,7 @@ pub fn places(bytes: &[u8]) -> Vec<Place> {
 
 /// The codes of a record or of a rewriting.
 pub fn codes(bytes: &[u8]) -> impl Iterator<Item = u8> + '_ {
-    places(bytes).into_iter().map(|p| bytes[p.start + 4])
+    places(bytes).into_iter().map(|p| bytes[p.code])
 }
 
 /// How many instructions each block of a record or of a rewriting has.
@@ -61,7 +64,7 @@ pub fn counts(bytes: &[u8]) -> Vec<u16> {
     let mut body = blocks + 2;
     let mut next = |_| {
         let n = two(bytes, body);
-        body = (0..n).fold(body + 4, |at, _| end_of(bytes, at));
+        body = (0..n).fold(body + 4, |at, _| end_of(bytes, at + id_bytes(bytes)));
         n as u16
     };
     (0..two(bytes, blocks)).map(&mut next).collect()

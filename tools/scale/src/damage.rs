@@ -1,7 +1,7 @@
 //! Damaged copies of records. What check is to say of one is not known here:
 //! the second reading answers it.
 
-use crate::function::{mend_length, Encoded, Field, Kind};
+use crate::function::{mend_length, Encoded, Field, Kind, WIDE};
 use crate::rng::Rng;
 
 const TEXTS: [&[u8]; 9] = [
@@ -13,7 +13,7 @@ fn values(kind: Kind, record: &Encoded, rng: &mut Rng) -> u64 {
     let names = u64::from(record.bytes[6]) * 256 + u64::from(record.bytes[7]);
     let some: &[u64] = match kind {
         Kind::Length => &[0, 4, 6, u32::MAX as u64],
-        Kind::Version => &[0, 2, 255],
+        Kind::Version => &[0, 1, 2, 3, 255],
         Kind::Args => &[0, 1, 16, 17, 255],
         Kind::Names => &[0, 1, 255, 256, 257, 65535],
         Kind::Type => &[0, 1, 2, 3, 4, 15, 16, 0x1F, 0xF3, 0xF4],
@@ -30,7 +30,8 @@ fn values(kind: Kind, record: &Encoded, rng: &mut Rng) -> u64 {
         Kind::Count => &[0, 1, 2, 3, 8, 9, 255],
         Kind::Target => &[0, 1, 2, 63, 64, 65535],
         Kind::Dest | Kind::Arg => return rng.pick(&[0, 1, 2, 3, names.saturating_sub(1), names, 65535]),
-        Kind::Text | Kind::Id | Kind::Callee => &[0, 0x20, 0x30, 0x5F, 0x61, 0xFF],
+        Kind::Id => &[0, WIDE - 1, WIDE, WIDE + 1, u64::MAX],
+        Kind::Text | Kind::Callee => &[0, 0x20, 0x30, 0x5F, 0x61, 0xFF],
     };
     rng.pick(some)
 }

@@ -8,6 +8,9 @@ pub const POINTER: u8 = 0x10;
 
 pub const PHI: u8 = 39;
 
+/// The least id that version 1 has no room for.
+pub const WIDE: u64 = 1 << 32;
+
 pub const CODES: [u8; 43] = [
     0, 1, 2, 3, 4, 5, 6, 7, 8, 9, 10, 11, 12, 13, 14, 20, 21, 22, 23, 24, 25, 26, 27, 28, 29, 30,
     31, 32, 33, 34, 35, 36, 37, 38, PHI, 64, 65, 66, 67, 68, 69, 70, 71,
@@ -16,7 +19,7 @@ pub const CODES: [u8; 43] = [
 /// An instruction; parts that its code does not have are 0 and are not written.
 #[derive(Clone, Default)]
 pub struct Instr {
-    pub id: u32,
+    pub id: u64,
     pub code: u8,
     pub dest: u16,
     pub kind: u8,
@@ -28,10 +31,19 @@ pub struct Instr {
 
 #[derive(Clone, Default)]
 pub struct Function {
+    /// Whether its record is of version 2.
+    pub wide: bool,
     pub args: u8,
     /// Type byte and text.
     pub names: Vec<(u8, Vec<u8>)>,
     pub blocks: Vec<Vec<Instr>>,
+}
+
+impl Function {
+    /// One whose record is of version 1.
+    pub fn new(args: u8, names: Vec<(u8, Vec<u8>)>, blocks: Vec<Vec<Instr>>) -> Function {
+        Function { wide: false, args, names, blocks }
+    }
 }
 
 /// What a field of a record is.
@@ -90,14 +102,23 @@ pub fn targets(code: u8, args: usize) -> usize {
     }
 }
 
+/// How many bytes an id has in a record, or in the events of its runs.
+pub fn id_bytes(record: &[u8]) -> usize {
+    if record[4] == 2 {
+        8
+    } else {
+        4
+    }
+}
+
 impl Encoded {
     fn put(&mut self, kind: Kind, width: usize, value: u64) {
         self.fields.push(Field { kind, at: self.bytes.len(), width });
         self.bytes.extend(&value.to_be_bytes()[8 - width..]);
     }
 
-    fn put_instr(&mut self, i: &Instr) {
-        self.put(Kind::Id, 4, u64::from(i.id));
+    fn put_instr(&mut self, i: &Instr, id_bytes: usize) {
+        self.put(Kind::Id, id_bytes, i.id);
         self.put(Kind::Code, 1, u64::from(i.code));
         if has_dest(i.code) {
             self.put(Kind::Dest, 2, u64::from(i.dest));
@@ -124,7 +145,8 @@ impl Encoded {
         self.bytes.clear();
         self.fields.clear();
         self.put(Kind::Length, 4, 0);
-        self.put(Kind::Version, 1, 1);
+        self.put(Kind::Version, 1, 1 + u64::from(f.wide));
+        let id_bytes = id_bytes(&self.bytes);
         self.put(Kind::Args, 1, u64::from(f.args));
         self.put(Kind::Names, 2, f.names.len() as u64);
         for (type_byte, text) in &f.names {
@@ -138,7 +160,7 @@ impl Encoded {
             self.put(Kind::Body, 2, block.len() as u64);
             self.put(Kind::Saves, 2, 0);
             for instr in block {
-                self.put_instr(instr);
+                self.put_instr(instr, id_bytes);
             }
         }
         mend_length(&mut self.bytes);
@@ -155,6 +177,7 @@ pub fn encode(f: &Function) -> Vec<u8> {
 /// The fields of an accepted record, one after the other.
 struct Fields<'a> {
     bytes: &'a [u8],
+    id_bytes: usize,
 }
 
 impl<'a> Fields<'a> {
@@ -169,7 +192,7 @@ impl<'a> Fields<'a> {
     }
 
     fn instr(&mut self) -> Instr {
-        let mut i = Instr { id: self.number(4) as u32, code: self.number(1) as u8, ..Instr::default() };
+        let mut i = Instr { id: self.number(self.id_bytes), code: self.number(1) as u8, ..Instr::default() };
         if has_dest(i.code) {
             i.dest = self.number(2) as u16;
         }
@@ -188,10 +211,10 @@ impl<'a> Fields<'a> {
     }
 }
 
-/// The function of an accepted record.
+/// The function of an accepted record, or of a rewriting.
 pub fn decode(bytes: &[u8]) -> Function {
-    let mut r = Fields { bytes: &bytes[5..] };
-    let mut f = Function { args: r.number(1) as u8, ..Function::default() };
+    let mut r = Fields { bytes: &bytes[5..], id_bytes: id_bytes(bytes) };
+    let mut f = Function { wide: bytes[4] == 2, args: r.number(1) as u8, ..Function::default() };
     for _ in 0..r.number(2) {
         let (type_byte, length) = (r.number(1) as u8, r.number(1) as usize);
         f.names.push((type_byte, r.part(length).to_vec()));

@@ -1,7 +1,7 @@
 //! Random accepted functions: all codes, all sizes up to the limits. Names and
 //! literals are few, so that values meet again and constants fold.
 
-use crate::function::{targets, Function, Instr, BOOL, CHAR, FLOAT, INT, PHI, POINTER};
+use crate::function::{targets, Function, Instr, BOOL, CHAR, FLOAT, INT, PHI, POINTER, WIDE};
 use crate::profiles::{Profile, ALL, COMPARISONS, DIVISIONS, PHIS, PROFILES};
 use crate::rng::Rng;
 use crate::second;
@@ -20,7 +20,22 @@ const FLOATS: [u64; 7] = [
     0x7FF0_0000_0000_0001,
 ];
 const CHARS: [u64; 7] = [0, 0x61, 0x7F, 0xD7FF, 0xE000, 0xFFFF, 0x10FFFF];
-const IDS: [u32; 7] = [0, 1, 255, 256, 65535, 65536, u32::MAX];
+const IDS: [u64; 7] = [0, 1, 255, 256, 65535, 65536, WIDE - 1];
+/// Ids around 2^32, and far beyond.
+const WIDE_IDS: [u64; 12] = [
+    WIDE - 2,
+    WIDE - 1,
+    WIDE,
+    WIDE + 1,
+    2 * WIDE - 1,
+    2 * WIDE,
+    1 << 40,
+    (1 << 63) - 1,
+    1 << 63,
+    u64::MAX - WIDE + 1,
+    u64::MAX - 1,
+    u64::MAX,
+];
 const ODD_TEXTS: [&[u8]; 10] = [
     b".", b"_", b"_.", b"__lvn0", b"_lvn0", b"x_lvn0", b"_x_lvn", b"_x_lvn0_", b"lvn", b"A.b_9",
 ];
@@ -150,11 +165,11 @@ impl Generator {
         })
     }
 
-    fn id(&mut self) -> u32 {
+    fn id(&mut self) -> u64 {
         if self.rng.chance(200) {
             self.rng.pick(&IDS)
         } else {
-            self.rng.below(64) as u32
+            self.rng.below(64) as u64
         }
     }
 
@@ -291,6 +306,11 @@ impl Generator {
         self.of_profile(size, profile)
     }
 
+    /// A function of a size over all types and all codes but phi.
+    pub fn mixed(&mut self, size: &Size) -> Function {
+        self.of_profile(size, &PROFILES[PROFILES.len() - 1])
+    }
+
     fn of_profile(&mut self, size: &Size, profile: &Profile) -> Function {
         self.f = Function { args: size.args as u8, ..Function::default() };
         self.names(size.names, profile.types);
@@ -302,7 +322,36 @@ impl Generator {
         std::mem::take(&mut self.f)
     }
 
+    /// A function of any size and kind; each second one is of version 2.
     pub fn function(&mut self) -> Function {
+        let mut f = self.narrow_function();
+        if self.rng.chance(500) {
+            self.widen(&mut f);
+        }
+        f
+    }
+
+    /// Makes a function one of version 2, in which none, few, half or all of the ids are drawn around 2^32 and beyond.
+    fn widen(&mut self, f: &mut Function) {
+        f.wide = true;
+        let of_thousand = self.rng.pick(&[0, 20, 500, 1000]);
+        for i in f.blocks.iter_mut().flatten() {
+            if self.rng.chance(of_thousand) {
+                i.id = self.wide_id(i.id);
+            }
+        }
+    }
+
+    /// An id that may be 2^32 or more; or one that is another one's with more above its last four bytes.
+    fn wide_id(&mut self, narrow: u64) -> u64 {
+        match self.rng.below(8) {
+            0 => self.rng.bits(),
+            1 => narrow + self.rng.within(1, 3) as u64 * WIDE,
+            _ => self.rng.pick(&WIDE_IDS),
+        }
+    }
+
+    fn narrow_function(&mut self) -> Function {
         let size = Size::random(&mut self.rng);
         match self.rng.below(10) {
             0 => self.of_profile(&size, &COMPARISONS),

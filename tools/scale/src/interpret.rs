@@ -1,9 +1,9 @@
-//! A plain interpreter of function records, written from document 01 ("The plain machine") and Points 4 to 6 of document 02
+//! A plain interpreter of function records, written from document 01 ("The plain machine") and Points 4 to 7 of document 02
 //! as one more reading of them, and the mark that the engine is timed beside: instructions decoded once into a Vec, a match over
 //! codes, the store a Vec of Option<Value>, events and final store written into Vecs. Store and answers are tested as they are
 //! read. The record is not: it has to be one that check accepts, or a rewriting.
 
-use crate::function::{has_callee, has_dest, targets, FLOAT};
+use crate::function::{has_callee, has_dest, id_bytes, targets, FLOAT};
 use crate::house::{read_store, store_bytes, Answer, Answers, Unfit, Value};
 
 #[derive(Clone, Copy, PartialEq, Debug)]
@@ -13,7 +13,7 @@ pub enum Ended {
     Halt,
     Unset,
     /// By the id of the division.
-    Division(u32),
+    Division(u64),
     Limit,
 }
 
@@ -31,7 +31,7 @@ pub struct Ran {
 /// An instruction; parts that its code does not have are 0. A phi's block numbers are not kept: the machine does not look at them.
 #[derive(Clone, Copy)]
 pub struct Instr {
-    pub id: u32,
+    pub id: u64,
     pub code: u8,
     pub dest: u16,
     literal: Option<Value>,
@@ -43,6 +43,7 @@ pub struct Instr {
 
 /// The instructions of all blocks one after the other, and where each block starts: a block that is done goes on with the next.
 pub struct Code {
+    id_bytes: usize,
     pub types: Vec<u8>,
     instrs: Vec<Instr>,
     starts: Vec<usize>,
@@ -63,8 +64,8 @@ fn literal(kind: u64, word: u64, type_byte: u8) -> Value {
     }
 }
 
-fn instr(bytes: &[u8], at: &mut usize, types: &[u8]) -> Instr {
-    let (id, code) = (number(bytes, at, 4) as u32, number(bytes, at, 1) as u8);
+fn instr(bytes: &[u8], at: &mut usize, id_bytes: usize, types: &[u8]) -> Instr {
+    let (id, code) = (number(bytes, at, id_bytes), number(bytes, at, 1) as u8);
     let mut i = Instr { id, code, dest: 0, literal: None, count: 0, args: [0; 8], callee: 0, targets: [0; 2] };
     if has_dest(code) {
         i.dest = number(bytes, at, 2) as u16;
@@ -92,7 +93,7 @@ fn instr(bytes: &[u8], at: &mut usize, types: &[u8]) -> Instr {
 
 pub fn decode(bytes: &[u8]) -> Code {
     let mut at = 6;
-    let mut code = Code { types: vec![], instrs: vec![], starts: vec![] };
+    let mut code = Code { id_bytes: id_bytes(bytes), types: vec![], instrs: vec![], starts: vec![] };
     for _ in 0..number(bytes, &mut at, 2) {
         code.types.push(number(bytes, &mut at, 1) as u8);
         at += 1 + usize::from(bytes[at]);
@@ -102,7 +103,7 @@ pub fn decode(bytes: &[u8]) -> Code {
         let n = number(bytes, &mut at, 2);
         at += 2;
         for _ in 0..n {
-            code.instrs.push(instr(bytes, &mut at, &code.types));
+            code.instrs.push(instr(bytes, &mut at, code.id_bytes, &code.types));
         }
     }
     code
@@ -217,7 +218,7 @@ impl<W: World> Machine<'_, W> {
         if args.iter().any(|a| self.store[usize::from(*a)].is_none()) {
             return Err(UNSET);
         }
-        self.events.extend(i.id.to_be_bytes());
+        self.events.extend(&i.id.to_be_bytes()[8 - self.code.id_bytes..]);
         self.events.push(i.code);
         self.events.extend(i.callee.to_be_bytes());
         self.events.push(i.count as u8);

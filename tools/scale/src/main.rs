@@ -1,11 +1,12 @@
 //! Holds the static library to the Rust, altered as document 02's Point 2 says,
-//! to a second reading of document 01 and, for runs, to a plain interpreter, on
-//! generated records; and times it beside the Rust, the hand port and that
-//! interpreter.
+//! to a second reading of document 01, for runs to a plain interpreter, and for
+//! widening and narrowing to a plain conversion, on generated records; and times
+//! it beside the Rust, the hand port, that interpreter and that conversion.
 
 mod bench;
 mod clock;
 mod compare;
+mod conversions;
 mod cut;
 mod damage;
 mod engine;
@@ -19,6 +20,7 @@ mod interpret;
 mod number;
 mod one;
 mod phis;
+mod plain;
 mod profiles;
 mod rng;
 mod rows;
@@ -26,7 +28,9 @@ mod runs;
 mod second;
 mod small;
 mod timed_runs;
+mod timed_versions;
 mod unaltered;
+mod versions;
 mod worlds;
 
 use std::io::{self, Read};
@@ -37,6 +41,7 @@ const USAGE: &str = "usage:
   scale runs [--seed S] [--count N]                    compares N runs (200000) of generated functions, as compare does at its end
   scale one                                            compares the records on standard input, one in hex per line
   scale bench [--seed S] [--seconds T]                 times rewrite beside others: T seconds (1) for each figure
+  scale bench-versions [--seed S] [--seconds T]        times check, rewrite and the conversions in both versions, as bench does before its end
   scale bench-runs [--seconds T]                       times runs alone, as bench does at its end
 S is 1 if not given. The status is 0 if all is the same, 1 if something differs, 2 for a wrong argument or input.";
 
@@ -128,6 +133,10 @@ fn run(words: &[String]) -> Result<bool, Wrong> {
         "bench" => {
             let a = arguments(rest, &["--seed", "--seconds"])?;
             Ok(bench::run(a.seed, a.seconds.unwrap_or(1)))
+        }
+        "bench-versions" => {
+            let a = arguments(rest, &["--seed", "--seconds"])?;
+            Ok(timed_versions::run(a.seed, a.seconds.unwrap_or(1)))
         }
         "bench-runs" => {
             let a = arguments(rest, &["--seconds"])?;

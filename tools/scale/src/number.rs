@@ -1,4 +1,4 @@
-//! A second reading of document 01's numbering and of Points 2, 4 and 5 of
+//! A second reading of document 01's numbering and of Points 2, 4, 5 and 7 of
 //! document 02, written from their words for this comparison, with nothing
 //! taken from the code it is compared with: the rewriting of an accepted record.
 

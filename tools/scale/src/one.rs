@@ -5,7 +5,8 @@ use crate::figures::Places;
 use crate::guarded::Guarded;
 use crate::phis::Phis;
 use crate::unaltered::Unaltered;
-use crate::{cut, number, second};
+use crate::versions::Versions;
+use crate::{cut, number, plain, second};
 use lvn::{Refused, Unwritten, Written};
 use oracle::{Answer, Rust};
 
@@ -26,10 +27,11 @@ pub struct Division {
     pub behind: usize,
 }
 
-/// What is lent to rewrite and to figures; and what is counted.
+/// What is lent to rewrite, to figures and to the conversions; and what is counted.
 pub struct Lent {
     output: Guarded<u8>,
     pub places: Places,
+    pub versions: Versions,
     pub unaltered: Unaltered,
     pub phis: Phis,
 }
@@ -39,6 +41,7 @@ impl Lent {
         Lent {
             output: Guarded::new(0xA5),
             places: Places::new(),
+            versions: Versions::new(),
             unaltered: Unaltered::default(),
             phis: Phis::default(),
         }
@@ -64,6 +67,7 @@ pub fn compare(bytes: &[u8], lent: &mut Lent) -> Result<Same, String> {
     lent.unaltered.ask(bytes, &answer)?;
     let second = number::rewriting(bytes);
     let same = accepted(bytes, &second, answer, lent)?;
+    in_both_versions(bytes, &second, lent)?;
     lent.phis.count(bytes, &second);
     Ok(same)
 }
@@ -82,7 +86,8 @@ fn accepted(bytes: &[u8], second: &[u8], answer: Answer, lent: &mut Lent) -> Res
     }
 }
 
-/// A refusal of check, by rewrite and by figures: nothing is written.
+/// A refusal of check, by rewrite, by figures and by the conversions: nothing is
+/// written.
 fn refused(bytes: &[u8], refused: Refused, lent: &mut Lent) -> Result<(), String> {
     let out = &mut lent.output;
     for size in [0, 200] {
@@ -91,7 +96,23 @@ fn refused(bytes: &[u8], refused: Refused, lent: &mut Lent) -> Result<(), String
             return Err(format!("rewrite: {answer:?}, expected {refused:?}"));
         }
     }
-    lent.places.refused(bytes, refused)
+    lent.places.refused(bytes, refused)?;
+    lent.versions.refused(bytes, refused.number, refused.offset)
+}
+
+/// The conversions of an accepted record; and the record in the other version,
+/// where its ids have room there: it is accepted, and its rewriting is this one
+/// in that version.
+fn in_both_versions(bytes: &[u8], rewriting: &[u8], lent: &mut Lent) -> Result<(), String> {
+    let Some(form) = lent.versions.accepted(bytes, turn(bytes))? else {
+        return Ok(());
+    };
+    let what = |what: String| format!("in version {}, {}: {what}", form[4], hex(&form));
+    as_fault(lvn::check(&form)).map_err(|fault| what(format!("check: {fault:?}")))?;
+    let no_room = |at| what(format!("an id of its rewriting at {at} has no room"));
+    let converted = plain::converted(rewriting, form[4]).map_err(no_room)?;
+    rewritten(&form, &converted, lent).map_err(what)?;
+    names(&form, &converted).map_err(what)
 }
 
 /// The rewriting with outputs of each size, and the figures; all saves.
@@ -135,12 +156,14 @@ fn turn(bytes: &[u8]) -> usize {
 }
 
 /// Two name texts, by turns around the ends of both lists of names, of the
-/// rewriting, of one cut short and of the input in its place.
+/// rewriting, of one cut short, of one that says the other version and of the
+/// input in its place.
 fn names(bytes: &[u8], rewriting: &[u8]) -> Result<(), String> {
     let (few, all) = (name_count(bytes), name_count(rewriting));
     let turn = turn(bytes);
     let some = turn % (all + 1);
     let cut = &rewriting[..rewriting.len() - 1 - turn % 9];
+    let other = [&rewriting[..4], &[plain::other(rewriting)], &rewriting[5..]].concat();
     let tries = [
         (rewriting, some),
         (rewriting, few),
@@ -148,8 +171,9 @@ fn names(bytes: &[u8], rewriting: &[u8]) -> Result<(), String> {
         (rewriting, all),
         (cut, some),
         (bytes, few.wrapping_sub(1)),
+        (&other, some),
     ];
-    for (record, index) in [tries[turn % 6], tries[(turn + 1) % 6]] {
+    for (record, index) in [tries[turn % 7], tries[(turn + 1) % 7]] {
         let found = lvn::name_text(bytes, record, index).map_err(|r| (r.number, r.offset));
         let expected = second::name_text(bytes, record, index);
         if found != expected {
@@ -174,9 +198,11 @@ fn division(bytes: &[u8], whole: &[u8], lent: &mut Lent) -> Result<Division, Str
     let with = cut::up_to(bytes, first, true);
     let (rewriting, _) = lvn::rewriting(&with).map_err(|r| format!("with the division: {r}"))?;
     let (read, end) = (&bytes[first.start..first.end], rewriting.len() - 4 * first.behind);
-    let least = [&read[..4], &[0], &read[5..7], &[0], &i64::MIN.to_be_bytes()].concat();
-    let by_zero = rewriting[end - 12..end - 4] == read[..8];
-    if read[4] != 4 || !by_zero && !rewriting[..end].ends_with(&least) {
+    let (id, code) = read.split_at(first.code - first.start);
+    let least = [id, &[0], &code[1..3], &[0], &i64::MIN.to_be_bytes()].concat();
+    // All but its two arguments, which are replaced.
+    let by_zero = rewriting[..end - 4].ends_with(&read[..read.len() - 4]);
+    if code[0] != 4 || !by_zero && !rewriting[..end].ends_with(&least) {
         return Err(format!("the Rust panics on {}, and {} is written", hex(read), hex(&rewriting)));
     }
     if !by_zero {

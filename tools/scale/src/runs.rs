@@ -1,13 +1,15 @@
-//! Runs of random functions: the engine held to the plain interpreter; and, where a run is one that demand 3 speaks of, the run of
-//! the rewriting held to it. The engine refuses rewritings, since check does: the interpreter runs them.
+//! Runs of random functions: the engine held to the plain interpreter; the same runs with the record in the other version; and, where a
+//! run is one that demand 3 speaks of, the run of the rewriting held to it. The engine refuses rewritings, since check does: the interpreter
+//! runs them.
 
 use crate::engine;
-use crate::function::{has_dest, Encoded};
+use crate::function::{has_dest, id_bytes, Encoded, POINTER};
 use crate::generate::Generator;
 use crate::guarded::Guarded;
 use crate::house::{read_store, store_bytes, Answer, Answers, Unfit};
 use crate::interpret::{self, Ended, Instr, Machine, Ran, World};
 use crate::one::hex;
+use crate::plain;
 use crate::rng::Rng;
 use crate::second;
 use crate::worlds::{call, Call};
@@ -28,6 +30,19 @@ fn refused(number: u8, values: [u64; 2]) -> Expected {
     Expected { number, values: [values[0], values[1], 0, 0, 0], events: vec![], store: vec![] }
 }
 
+/// Events with ids of so many bytes in place of so many.
+fn with_id_bytes(events: &[u8], from: usize, to: usize) -> Vec<u8> {
+    let (mut out, mut at) = (vec![], 0);
+    while at < events.len() {
+        let id = &events[at..at + from];
+        out.extend([&[0; 8], id].concat()[8 + from - to..].iter());
+        let head = at + from;
+        at = (0..events[head + 3]).fold(head + 4, |at, _| at + if events[at] >= POINTER { 17 } else { 9 });
+        out.extend(&events[head..at]);
+    }
+    out
+}
+
 /// How it ended, and the id of a division.
 fn numbers(ended: Ended) -> [u64; 2] {
     match ended {
@@ -35,7 +50,7 @@ fn numbers(ended: Ended) -> [u64; 2] {
         Ended::Ret => [1, 0],
         Ended::Halt => [2, 0],
         Ended::Unset => [3, 0],
-        Ended::Division(id) => [4, id.into()],
+        Ended::Division(id) => [4, id],
         Ended::Limit => [5, 0],
     }
 }
@@ -60,6 +75,11 @@ impl World for Counting<'_> {
 #[derive(Default)]
 struct Tally {
     functions: u64,
+    /// Those of version 2.
+    wide: u64,
+    /// Runs with the record widened, and with it narrowed.
+    widened: u64,
+    narrowed: u64,
     ended: [u64; 6],
     steps: u64,
     events: u64,
@@ -76,6 +96,13 @@ impl Tally {
     fn same(&self) -> u64 {
         self.ended.iter().sum::<u64>() + self.unfit + self.refused
     }
+}
+
+/// Of a record: its rewriting, how many arguments its function has, and, where its ids have room there, the record in the other version.
+struct Forms {
+    rewriting: Vec<u8>,
+    args: usize,
+    other: Option<Vec<u8>>,
 }
 
 struct Runs {
@@ -151,14 +178,29 @@ impl Runs {
         Ok(())
     }
 
-    fn compare(&mut self, c: &Call, rewriting: &[u8], args: usize) -> Result<(), String> {
+    /// A call that gave this, with the record in the other version: the same, but for the width of an event's id.
+    fn in_other_version(&mut self, c: &Call, expected: &Expected, form: &[u8]) -> Result<(), String> {
+        let other = Call { record: form.to_vec(), ..c.clone() };
+        let events = with_id_bytes(&expected.events, id_bytes(&c.record), id_bytes(form));
+        let mut values = expected.values;
+        values[0] = events.len() as u64;
+        let same = Expected { number: expected.number, values, events, store: expected.store.clone() };
+        self.alike(&other, &same).map_err(|what| format!("in version {}: {what}", form[4]))?;
+        *(if form[4] == 2 { &mut self.tally.widened } else { &mut self.tally.narrowed }) += 1;
+        Ok(())
+    }
+
+    fn compare(&mut self, c: &Call, of: &Forms) -> Result<(), String> {
         if let Some((number, offset)) = c.damaged.then(|| second::check(&c.record).err()).flatten() {
             self.alike(c, &refused(number, [offset as u64, 0]))?;
             self.tally.refused += 1;
             return Ok(());
         }
+        let other = of.other.as_ref().filter(|_| !c.damaged);
         let Ok(ran) = interpret::run(&c.record, &c.store, &c.answers, c.limit) else {
-            self.alike(c, &refused(13, [0, 0]))?;
+            let unfit = refused(13, [0, 0]);
+            self.alike(c, &unfit)?;
+            other.map_or(Ok(()), |form| self.in_other_version(c, &unfit, form))?;
             self.tally.unfit += 1;
             return Ok(());
         };
@@ -166,8 +208,9 @@ impl Runs {
         let values = [ran.events.len() as u64, ran.store.len() as u64, ran.steps, ended, id];
         let expected = Expected { number: 0, values, events: ran.events.clone(), store: ran.store.clone() };
         self.alike(c, &expected)?;
+        other.map_or(Ok(()), |form| self.in_other_version(c, &expected, form))?;
         if !c.damaged {
-            self.paired(c, &ran, rewriting, args)?;
+            self.paired(c, &ran, &of.rewriting, of.args)?;
         }
         self.tally.ended[ended as usize] += 1;
         self.tally.steps += ran.steps;
@@ -178,10 +221,12 @@ impl Runs {
     fn function(&mut self, record: &[u8], args: usize, rng: &mut Rng) -> Result<(), String> {
         let code = interpret::decode(record);
         let (rewriting, _) = lvn::rewriting(record).map_err(|r| format!("{r}: {}", hex(record)))?;
+        let forms = Forms { rewriting, args, other: plain::converted(record, plain::other(record)).ok() };
         self.tally.functions += 1;
+        self.tally.wide += u64::from(record[4] == 2);
         for _ in 0..EACH {
             let c = call(rng, record, &code);
-            let Err(what) = self.compare(&c, &rewriting, args) else { continue };
+            let Err(what) = self.compare(&c, &forms) else { continue };
             self.tally.differ += 1;
             if self.smallest.as_ref().is_none_or(|(least, _)| c.size() < least.size()) {
                 self.smallest = Some((c, what));
@@ -214,12 +259,16 @@ fn summary(runs: &Runs, seed: u64, seconds: f64) {
     let t = &runs.tally;
     let [end, ret, halt, unset, division, limit] = t.ended;
     println!(
-        "runs, seed {seed}, {seconds:.1} s: {} functions, each with {EACH} stores, lists of answers and limits:",
-        t.functions
+        "runs, seed {seed}, {seconds:.1} s: {} functions, {} of version 2, each with {EACH} stores, lists of answers and limits:",
+        t.functions, t.wide
     );
     println!("  done as by the plain interpreter: end {end}, ret {ret}, halt {halt}, unset {unset}, division {division}, limit {limit};");
     println!("  {} steps and {} bytes of events; 13: {}, check's refusals: {};", t.steps, t.events, t.unfit, t.refused);
     println!("  lent exactly enough, more, none and a byte too little, between guard bytes; 14: {}", t.short);
+    println!(
+        "  {} also with the record widened, {} with it narrowed: alike but for the width of an event's id",
+        t.widened, t.narrowed
+    );
     println!("  demand 3: {} of these runs and those of the rewritings alike, with {} saves", t.paired, t.saves);
     if let Some((c, what)) = &runs.smallest {
         println!("smallest that differs: record, store, answers, limit");

@@ -1,5 +1,5 @@
-//! A second reading of document 01 and of Point 5 of document 02: check and name
-//! text, written from their words for this comparison, with nothing taken from
+//! A second reading of document 01 and of Points 5 and 7 of document 02: check and
+//! name text, written from their words for this comparison, with nothing taken from
 //! the code it is compared with.
 
 use std::collections::HashSet;
@@ -106,10 +106,10 @@ struct Typed {
     wanted: &'static str,
 }
 
-fn instruction(r: &mut Input, names: &[u8], blocks: u64, last: bool) -> Result<Typed, Fault> {
+fn instruction(r: &mut Input, id: usize, names: &[u8], blocks: u64, last: bool) -> Result<Typed, Fault> {
     let at = r.at;
     let known = |n: u64| n < names.len() as u64;
-    r.number(4, 0, |_| true)?;
+    r.number(id, 0, |_| true)?;
     let code_at = r.at;
     let code = r.number(1, 5, |c| c == 0 || shape(c as u8).is_some())? as u8;
     if !last && (64..=66).contains(&code) {
@@ -154,7 +154,10 @@ pub fn check(bytes: &[u8]) -> Result<(), Fault> {
     if r.number(4, 1, |l| l + 4 == rest).is_err() {
         return Err((1, 0));
     }
-    r.number(1, 2, |v| v == 1)?;
+    let id = match r.number(1, 2, |v| v == 1 || v == 2)? {
+        1 => 4,
+        _ => 8,
+    };
     let args = r.number(1, 3, |a| a <= 16)?;
     let count = r.number(2, 3, |n| n <= 256 && args <= n)?;
     let (mut names, mut texts) = (vec![], HashSet::new());
@@ -172,7 +175,7 @@ pub fn check(bytes: &[u8]) -> Result<(), Fault> {
         let n = r.number(2, 3, |n| n <= 256)?;
         r.number(2, 3, |saves| saves == 0)?;
         for i in 1..=n {
-            instrs.push(instruction(&mut r, &names, blocks, i == n)?);
+            instrs.push(instruction(&mut r, id, &names, blocks, i == n)?);
         }
     }
     if r.at < bytes.len() {

@@ -73,7 +73,7 @@ fn instructions(types: [u8; 2]) -> Vec<Instr> {
         }
     }
     let accepted = |i: &Instr| {
-        let function = Function { args: 0, names: two_names(types), blocks: vec![vec![i.clone()]] };
+        let function = Function::new(0, two_names(types), vec![vec![i.clone()]]);
         second::check(&crate::function::encode(&function)).is_ok()
     };
     all.retain(accepted);
@@ -125,7 +125,7 @@ impl Iterator for Blocks {
             self.advance();
             let early = block.iter().rev().skip(1).any(|i| matches!(i.code, 64..=66));
             if !early {
-                return Some(Function { args, names: self.names.clone(), blocks: vec![block] });
+                return Some(Function::new(args, self.names.clone(), vec![block]));
             }
         }
         None

@@ -22,14 +22,14 @@ struct Timed {
 
 fn function(names: &[(u8, &str)], blocks: Vec<Vec<Instr>>) -> Function {
     let names = names.iter().map(|(t, text)| (*t, text.as_bytes().to_vec())).collect();
-    Function { args: 3, names, blocks }
+    Function::new(3, names, blocks)
 }
 
-fn op(id: u32, code: u8, dest: u16, args: &[u16]) -> Instr {
+fn op(id: u64, code: u8, dest: u16, args: &[u16]) -> Instr {
     Instr { id, code, dest, args: args.to_vec(), ..Instr::default() }
 }
 
-fn branch(id: u32, arg: u16, yes: u16, no: u16) -> Instr {
+fn branch(id: u64, arg: u16, yes: u16, no: u16) -> Instr {
     Instr { id, code: 65, args: vec![arg], blocks: [yes, no, 0, 0, 0, 0, 0, 0], ..Instr::default() }
 }
 
