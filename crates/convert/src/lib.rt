@@ -51,7 +51,8 @@ impl Source<'_> {
     // Of n instructions from a place on, the place of the first whose id has no room; else the place behind them.
     fn scan_body(self, at: usize, n: usize) -> Result<usize, ConvertError>
         requires { behind (instr_end self.from self.reads.now) at n < places_end }
-        ensures { result ≡ scanned (first_wide self.entry.to (body_placed self.entry.from self.entry.reads.now at n)) (behind (instr_end self.entry.from self.entry.reads.now) at n) }
+        ensures { result ≡ scanned (first_wide self.entry.to (body_placed self.entry.from self.entry.reads.now at n))
+            (behind (instr_end self.entry.from self.entry.reads.now) at n) }
     {
         let mut p = at;
         for _ in 0..n {
@@ -66,7 +67,8 @@ impl Source<'_> {
     // Of n blocks from a place on, the place of the first instruction whose id has no room; else how many instructions they have.
     fn scan_blocks(self, at: usize, n: usize) -> Result<usize, ConvertError>
         requires { (behind (block_end self.from self.reads.now) at n < places_end) × (n < 65536) }
-        ensures { result ≡ scanned (first_wide self.entry.to (blocks_placed self.entry.from self.entry.reads.now at n)) (length (blocks_placed self.entry.from self.entry.reads.now at n)) }
+        ensures { result ≡ scanned (first_wide self.entry.to (blocks_placed self.entry.from self.entry.reads.now at n))
+            (length (blocks_placed self.entry.from self.entry.reads.now at n)) }
     {
         let mut p = at;
         let mut count = 0;
@@ -175,6 +177,7 @@ fn convert(input: &[u8], output: &mut [u8], version: u8) -> Result<usize, Conver
     if output.len() < size {
         return Err(ConvertError::Room(size));
     }
+    // as: the number fits, or u32 and usize have no From; try_from would give an error that cannot happen.
     source.put_record(output, layout, size as u32);
     Ok(size)
 }
