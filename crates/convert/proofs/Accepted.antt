@@ -35,14 +35,9 @@ use Rattle.write_bytes.specs.Put.{put}
 use Rattle.write_bytes.proofs.Put.{put_first}
 use Rattle.read_layout.specs.declared.Layout.{Layout}
 use Rattle.read_layout.specs.Layout.{layout_of}
-use Rattle.convert.specs.Parts.{blocks_placed, scanned, Accepted, Whole}
+use Rattle.convert.specs.Parts.{blocks_placed, scanned, Checked, Measured}
 use Rattle.convert.proofs.Scan.{found_ok, found_err}
 use Rattle.convert.proofs.Size.{version_size}
-
--- what a slice of bytes holds
-bytes_of : (s : List ℕ) → ((i : ℕ) → get_or s i 0 < 256) → Bytes s
-bytes_of [] h = tt
-bytes_of (b ∷ s) h = (h 0, bytes_of s (λ i. h (suc i)))
 
 -- what check refuses
 pub refused_answer :
@@ -52,11 +47,7 @@ refused_answer version s out f h =
     let d : convert version s out ≡ Err (Refused f) = (refused_exactly version s out f).1 h in
     (sym d, sym (untouched version s out (Refused f) d))
 
--- a slice that was checked
-pub accepted_of : (version : ℕ) (s : List ℕ) → ((i : ℕ) → get_or s i 0 < 256) → checked s ≡ Ok tt → version_test version ≡ Ok tt → Accepted version s
-accepted_of version s h c k = record { bytes = bytes_of s h; accepted = c; known = k }
-
-module _ (version : ℕ) (s : List ℕ) (a : Accepted version s) where
+module _ (version : ℕ) (s : List ℕ) (a : Checked version s) where
   abbrev placed : Record Placed
   placed = record_from s
 
@@ -143,9 +134,9 @@ module _ (version : ℕ) (s : List ℕ) (a : Accepted version s) where
     size_is : size ≡ length (converted_bytes version placed)
     size_is = (found_ok _ _ size f).1
 
-    pub whole : Whole version s size
+    pub measured : Measured version s size
     unfolding converted_bytes
-    whole =
+    measured =
         record {
           all = same_bytes;
           fits =

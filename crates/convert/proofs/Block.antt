@@ -8,7 +8,7 @@ use lib.Seq.{take-append_seam}
 use Rattle.record.specs.Record.{Instr, Block}
 use Rattle.record.specs.Ranged.{RangedInstr, RangedBlock}
 use Rattle.record.specs.Reader.{num_at}
-use Rattle.record.specs.Write.{be, join, instr_bytes, block_bytes}
+use Rattle.record.specs.Write.{row_bytes, be, join, instr_bytes, block_bytes}
 use Rattle.record.specs.Decode.{block_end}
 use Rattle.record.specs.Again.{instrs_from, instrs_end, block_in}
 use Rattle.record.specs.Good.{Each}
@@ -18,7 +18,7 @@ use Rattle.record.proofs.Ends.{block_body, block_past}
 use Rattle.read_layout.specs.declared.Spot.{Spot}
 use Rattle.write_bytes.specs.Put.{Wrote}
 use Rattle.write_bytes.proofs.Wrote.{wrote_append}
-use Rattle.convert.specs.Parts.{row_bytes, Stands, Put}
+use Rattle.convert.specs.Parts.{Stands, Done}
 
 abbrev head : Block Instr → List ℕ
 head b = be 2 (length b.body) ++ be 2 b.saves
@@ -86,8 +86,8 @@ module _
       pub block_put :
           {out mid out' : List ℕ} {q : ℕ} {r : Spot} →
           Wrote out mid at.q q (take 4 (drop at.p s)) →
-          Put (row_bytes instr_bytes) to mid out' (record { p = p; q = q }) r (instrs_from from s p n) (instrs_end from s p n) →
-          Put block_bytes to out out' at r here (block_end from s at.p)
+          Done (row_bytes instr_bytes) to mid out' (record { p = p; q = q }) r (instrs_from from s p n) (instrs_end from s p n) →
+          Done block_bytes to out out' at r here (block_end from s at.p)
       block_put {out} {mid} {out'} {q} {r} a d =
           let first : Wrote out mid at.q q (head here) = subst (λ (l : List ℕ). Wrote out mid at.q q l) head_there a in
           let rows = subst (λ (is : List Instr). Wrote mid out' q r.q (row_bytes instr_bytes to is)) (sym body_is) d.wrote in

@@ -21,14 +21,7 @@ use Rattle.read_layout.specs.declared.Spot.{Spot}
 use Rattle.write_bytes.specs.Put.{put, Wrote, IdWidth}
 use Rattle.write_bytes.proofs.Numbers.{width_four}
 use Rattle.write_bytes.proofs.Wrote.{wrote_number, wrote_append}
-use Rattle.convert.specs.Parts.{Stands, Put}
-
--- ---- whether an id has room in w bytes
-pub fits_eight : (w x : ℕ) → w ≡ 8 → x < 18446744073709551616 → true ≡ ltb x (256 ^ w)
-fits_eight w x e h = rw e (sym (lt-ltb x (256 ^ 8) h))
-
-pub fits_four : (w x : ℕ) → IdWidth w → (w ≡ 8 → ⊥) → ltb x 4294967296 ≡ ltb x (256 ^ w)
-fits_four w x d n = ap (λ (k : ℕ). ltb x (256 ^ k)) (sym (width_four d n))
+use Rattle.convert.specs.Parts.{Stands, Done}
 
 -- ---- what stands behind the id
 abbrev pub tail : Instr → List ℕ
@@ -81,7 +74,7 @@ module _
     pub instr_put :
         {out mid out' : List ℕ} {q : ℕ} (id e : ℕ) → id ≡ num_at s at.p from → e ≡ end → mid ≡ put out at.q (be to id) →
         Wrote mid out' (at.q + to) q (take (e - (at.p + from)) (drop (at.p + from) s)) →
-        Put instr_bytes to out out' at (record { p = e; q = q }) here end
+        Done instr_bytes to out out' at (record { p = e; q = q }) here end
     instr_put {out} {mid} {out'} {q} id e i f w c =
         let a : Wrote out mid at.q (at.q + to) (be to here.id) =
         wrote_number to here.id (w ∙ ap (λ (x : ℕ). put out at.q (be to x)) (i ∙ sym id_is)) in

@@ -8,7 +8,7 @@ use lib.Seq.{take-append_seam}
 use Rattle.record.specs.Record.{Instr, Record, id_bytes}
 use Rattle.record.specs.Ranged.{RangedBlock}
 use Rattle.record.specs.Reader.{num_at}
-use Rattle.record.specs.Write.{be, join, name_bytes, block_bytes, content_bytes, bytes}
+use Rattle.record.specs.Write.{row_bytes, be, join, name_bytes, block_bytes, content_bytes, bytes}
 use Rattle.record.specs.Decode.{names_end, blocks_end, id_width, block_end}
 use Rattle.record.specs.Again.{block_in, blocks_in, blocks_behind, record_in}
 use Rattle.record.specs.Good.{Each}
@@ -21,7 +21,7 @@ use Rattle.record.proofs.Ends.{row_past, block_past, record_past}
 use Rattle.read_layout.specs.declared.Spot.{Spot}
 use Rattle.write_bytes.specs.Put.{put, Wrote}
 use Rattle.write_bytes.proofs.Wrote.{wrote_number, wrote_append}
-use Rattle.convert.specs.Parts.{row_bytes, Stands, Put, Whole}
+use Rattle.convert.specs.Parts.{Stands, Done, Measured}
 
 -- A, N, the names and B
 abbrev pub middle : Record Instr → List ℕ
@@ -57,7 +57,7 @@ record_long r =
       length_be 1 r.version,
     )
 
-module _ (version : ℕ) (s : List ℕ) (size : ℕ) (h : Whole version s size) where
+module _ (version : ℕ) (s : List ℕ) (size : ℕ) (h : Measured version s size) where
   abbrev r : Record Instr
   r = record_in s
 
@@ -131,7 +131,7 @@ module _ (version : ℕ) (s : List ℕ) (size : ℕ) (h : Whole version s size) 
     pub record_put :
         (out : List ℕ) {one two three out' : List ℕ} {q : ℕ} {end : Spot} →
         one ≡ put out 0 (be 4 (size - 4)) → two ≡ put one 4 (be 1 version) → Wrote two three 5 q (take (p - 5) (drop 5 s)) →
-        Put (row_bytes block_bytes) to three out' (record { p = p; q = q }) end (blocks_in from s p n) (blocks_behind from s p n) →
+        Done (row_bytes block_bytes) to three out' (record { p = p; q = q }) end (blocks_in from s p n) (blocks_behind from s p n) →
         out' ≡ put out 0 (bytes new)
     record_put out {one} {two} {three} {out'} {q} {end} a b c d =
         let l : size - 4 ≡ length (content_bytes new) = omega (arith, h.size_is, record_size new) in

@@ -4,7 +4,7 @@ use mathlib.Core.Path.{◌≡◌, refl, sym, ap, ◌∙◌, subst}
 use mathlib.Core.List.{List, ◌++◌, append_assoc}
 use native.Mathlib.Omega.{arith}
 use lib.ListN.{length, drop, length-append}
-use Rattle.record.specs.Write.{join}
+use Rattle.record.specs.Write.{row_bytes, join}
 use Rattle.record.specs.Decode.{items, behind}
 use Rattle.record.specs.Good.{Each}
 use Rattle.record.specs.Sizes.{places_end}
@@ -12,7 +12,7 @@ use Rattle.record.proofs.Rows.{one_more, behind_on}
 use Rattle.record.proofs.Stands.{past}
 use Rattle.read_layout.specs.declared.Spot.{Spot}
 use Rattle.write_bytes.proofs.Wrote.{Rest, rest_all, rest_less, rest_none}
-use Rattle.convert.specs.Parts.{row_bytes, Stands, Put}
+use Rattle.convert.specs.Parts.{Stands, Done}
 
 -- one: the part at a place, which ends where `next` says; s holds it with ids of the one width, and it is written with ids of the other
 module _
@@ -51,7 +51,7 @@ module _
           writes = omega (arith, a.writes, l);
         }
 
-    rest_of : (at r : Spot) (n : ℕ) {out out' : List ℕ} → Row at (suc n) → Put f to out out' at r (one at.p) (next at.p) → Row r n
+    rest_of : (at r : Spot) (n : ℕ) {out out' : List ℕ} → Row at (suc n) → Done f to out out' at r (one at.p) (next at.p) → Row r n
     unfolding items behind join
     rest_of at r n a d =
         let x = f from (one at.p) in
@@ -68,7 +68,7 @@ module _
 
     -- m: one less than n
     pub row_rest :
-        (at r : Spot) (n m : ℕ) {out out' : List ℕ} → 0 < n → m ≡ n - 1 → Put f to out out' at r (one at.p) (next at.p) → Row at n → Row r m
+        (at r : Spot) (n m : ℕ) {out out' : List ℕ} → 0 < n → m ≡ n - 1 → Done f to out out' at r (one at.p) (next at.p) → Row at n → Row r m
     row_rest at r n m h e d a = subst (Row r) (sym e) (rest_of at r (n - 1) (subst (Row at) (one_more n h) a) d)
 
     -- ---- the loop over a row: what is left from here gives the whole
@@ -81,7 +81,7 @@ module _
 
     pub going_less :
         (at₀ : Spot) (n₀ : ℕ) {out₀ : List ℕ} (at r : Spot) (n m : ℕ) {out out' : List ℕ} → 0 < n → m ≡ n - 1 →
-        Put f to out out' at r (one at.p) (next at.p) → Going at₀ n₀ out₀ at n out → Going at₀ n₀ out₀ r m out'
+        Done f to out out' at r (one at.p) (next at.p) → Going at₀ n₀ out₀ at n out → Going at₀ n₀ out₀ r m out'
     unfolding behind
     going_less at₀ n₀ {out₀} at r n m {out} {out'} h e d g =
         let k = n - 1 in
@@ -96,7 +96,7 @@ module _
 
     pub going_none :
         (at₀ : Spot) (n₀ : ℕ) {out₀ : List ℕ} (at : Spot) (n : ℕ) {out : List ℕ} → n ≡ 0 → Going at₀ n₀ out₀ at n out →
-        Put (row_bytes f) to out₀ out at₀ at (row at₀.p n₀) (behind next at₀.p n₀)
+        Done (row_bytes f) to out₀ out at₀ at (row at₀.p n₀) (behind next at₀.p n₀)
     unfolding items behind join
     going_none at₀ n₀ at n z g =
         record {

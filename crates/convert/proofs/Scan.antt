@@ -12,12 +12,12 @@ use Rattle.record.specs.declared.ConvertError.TheVariants.{Wide}
 use Rattle.arith.proofs.Clash.{clash}
 use Rattle.record.specs.Record.{Placed}
 use Rattle.record.specs.Reader.{num_at}
-use Rattle.record.specs.Decode.{items, behind, operands_from, instr_from, instr_end, body_from, block_end}
+use Rattle.record.specs.Decode.{body_placed, items, behind, operands_from, instr_from, instr_end, body_from, block_end}
 use Rattle.record.specs.Versions.{Converted, first_wide}
 use Rattle.record.proofs.Rows.{one_more, behind_on}
 use Rattle.record.proofs.Ends.{block_grows}
 use Rattle.record.proofs.Decode.{length_items}
-use Rattle.convert.specs.Parts.{body_placed, blocks_placed, scanned}
+use Rattle.convert.specs.Parts.{blocks_placed, scanned}
 
 -- ---- what is found in two rows
 module _ (to : ℕ) where

@@ -6,11 +6,11 @@ use native.Mathlib.Omega.{arith}
 use native.Mathlib.Nat.{add-mul}
 use lib.ListN.{length, length-append}
 use Rattle.record.specs.Record.{Instr, Block, Record, id_bytes}
-use Rattle.record.specs.Write.{instr_bytes, block_bytes, bytes}
+use Rattle.record.specs.Write.{row_bytes, instr_bytes, block_bytes, bytes}
 use Rattle.record.specs.Versions.{in_version}
 use Rattle.record.proofs.Sizes.{join_cons, join_nil}
 use Rattle.record.proofs.Ids.{ids_in, ids}
-use Rattle.convert.specs.Parts.{row_bytes}
+
 use Rattle.convert.proofs.Instr.{instr_long}
 use Rattle.convert.proofs.Block.{block_long}
 use Rattle.convert.proofs.Record.{rows, record_long}

@@ -15,10 +15,7 @@ use Rattle.read_layout.specs.declared.Spot.{Spot}
 use Rattle.write_bytes.specs.Put.{Wrote}
 
 -- ---- the ids
--- of the n instructions, and of the n blocks from a place on
-abbrev pub body_placed : ℕ → List ℕ → ℕ → ℕ → List Placed
-body_placed w s at n = items (placed_from w s) (instr_end w s) at n
-
+-- the instructions of the n blocks from a place on
 abbrev pub blocks_placed : ℕ → List ℕ → ℕ → ℕ → List Placed
 blocks_placed w s at n = flat_map (λ b. b.body) (items (block_from w s) (block_end w s) at n)
 
@@ -28,10 +25,6 @@ scanned None n = Ok n
 scanned (Some o) n = Err (Wide o)
 
 -- ---- the parts
--- the bytes of a row of parts; w: the bytes of an id
-abbrev pub row_bytes : {A : Type 0} → (ℕ → A → List ℕ) → ℕ → List A → List ℕ
-row_bytes one w xs = join (map (one w) xs)
-
 -- a part x stands at a place of s with ids of one width, and ends there; in the other width it fits, and there is room for it
 pub record Stands {A : Type 0} (f : ℕ → A → List ℕ) (ok : A → Type 0) (from to : ℕ) (s : List ℕ) (at : Spot) (x : A) (end : ℕ) : Type 0 where
   pub rest : List ℕ
@@ -41,19 +34,19 @@ pub record Stands {A : Type 0} (f : ℕ → A → List ℕ) (ok : A → Type 0) 
   pub writes : at.q + length (f to x) < places_end
 
 -- it is written in the other width, and r is the place behind it in both
-pub record Put {A : Type 0} (f : ℕ → A → List ℕ) (to : ℕ) (out out' : List ℕ) (at r : Spot) (x : A) (end : ℕ) : Type 0 where
+pub record Done {A : Type 0} (f : ℕ → A → List ℕ) (to : ℕ) (out out' : List ℕ) (at r : Spot) (x : A) (end : ℕ) : Type 0 where
   pub wrote : Wrote out out' at.q r.q (f to x)
   pub next : r.p ≡ end
 
 -- ---- the record
 -- s is accepted, and the version is one of the two
-pub record Accepted (version : ℕ) (s : List ℕ) : Type 0 where
+pub record Checked (version : ℕ) (s : List ℕ) : Type 0 where
   pub bytes : Bytes s
   pub accepted : checked s ≡ Ok tt
   pub known : version_test version ≡ Ok tt
 
 -- s is all of a record, whose ids fit a version, and which has so many bytes there
-pub record Whole (version : ℕ) (s : List ℕ) (size : ℕ) : Type 0 where
+pub record Measured (version : ℕ) (s : List ℕ) (size : ℕ) : Type 0 where
   pub all : bytes (record_in s) ≡ s
   pub fits : Ranged (in_version version (record_in s))
   pub names : names_end s + 2 ≤ length s

@@ -5,19 +5,19 @@
 ghost use Rattle.std.specs.Prelude.{Ok, Err, ◌≡◌, ◌+◌, ◌*◌, ◌^◌, ◌<◌, ◌≤◌, length, ltb};
 ghost use Rattle.record.specs.Record.{id_bytes};
 ghost use Rattle.record.specs.Reader.{num_at};
-ghost use Rattle.record.specs.Write.{instr_bytes, block_bytes, bytes};
+ghost use Rattle.record.specs.Write.{row_bytes, instr_bytes, block_bytes, bytes};
 ghost use Rattle.record.specs.Tests.{version_test};
 ghost use Rattle.record.specs.Answer.{checked};
 ghost use Rattle.record.specs.Good.{Each};
 ghost use Rattle.record.specs.Ranged.{RangedInstr, RangedBlock};
-ghost use Rattle.record.specs.Decode.{behind, instr_from, instr_end, block_end, id_width, record_from};
+ghost use Rattle.record.specs.Decode.{body_placed, behind, instr_from, instr_end, block_end, id_width, record_from};
 ghost use Rattle.record.specs.Again.{instrs_from, instrs_end, block_in, blocks_in, blocks_behind, record_in};
 ghost use Rattle.record.specs.Sizes.{places_end};
 ghost use Rattle.record.specs.Versions.{in_version, converted_bytes, instructions, first_wide, convert, convert_leaves, widen, widen_leaves, narrow, narrow_leaves};
 ghost use Rattle.read_fields.specs.Places.{places};
 ghost use Rattle.read_layout.specs.Layout.{layout_of};
 ghost use Rattle.write_bytes.specs.Put.{put};
-ghost use Rattle.convert.specs.Parts.{body_placed, blocks_placed, scanned, row_bytes, Stands, Put, Accepted, Whole};
+ghost use Rattle.convert.specs.Parts.{blocks_placed, scanned, Stands, Done, Checked, Measured};
 
 use read_layout::{Layout, Spot};
 use record::ConvertError;
@@ -44,8 +44,7 @@ impl Source<'_> {
         requires { at + 7 < places }
         ensures { result ≡ ltb (num_at self.entry.reads.now at self.entry.from) (256 ^ self.entry.to) }
     {
-        let id = read_instrs::read_id(self.reads, at, self.from);
-        self.to == 8 || id < 1 << 32
+        write_bytes::word_fits(self.to, read_instrs::read_id(self.reads, at, self.from))
     }
 
     // Of n instructions from a place on, the place of the first whose id has no room; else the place behind them.
@@ -82,7 +81,7 @@ impl Source<'_> {
 
     // How many bytes the record has in the version that is wanted; or the place of the first instruction whose id has no room.
     fn size(self, layout: Layout) -> Result<usize, ConvertError>
-        requires { Accepted self.version self.reads.now × (layout ≡ layout_of self.reads.now) }
+        requires { Checked self.version self.reads.now × (layout ≡ layout_of self.reads.now) }
         ensures { result ≡ scanned (first_wide (id_bytes self.entry.version) (instructions (record_from self.entry.reads.now)))
             (length (converted_bytes self.entry.version (record_from self.entry.reads.now))) }
     {
@@ -95,7 +94,7 @@ impl Source<'_> {
     fn put_instr(self, out: &mut [u8], at: Spot) -> Spot
         requires { Stands instr_bytes (RangedInstr self.to) self.from self.to self.reads.now at (instr_from self.from self.reads.now at.p)
             (instr_end self.from self.reads.now at.p) }
-        ensures { Put instr_bytes self.entry.to out.old out.new at result (instr_from self.entry.from self.entry.reads.now at.p)
+        ensures { Done instr_bytes self.entry.to out.old out.new at result (instr_from self.entry.from self.entry.reads.now at.p)
             (instr_end self.entry.from self.entry.reads.now at.p) }
     {
         let id = read_instrs::read_id(self.reads, at.p, self.from);
@@ -110,7 +109,7 @@ impl Source<'_> {
     fn put_body(self, out: &mut [u8], at: Spot, n: usize) -> Spot
         requires { Stands (row_bytes instr_bytes) (Each (λ left i. RangedInstr self.to i)) self.from self.to self.reads.now at
             (instrs_from self.from self.reads.now at.p n) (instrs_end self.from self.reads.now at.p n) }
-        ensures { Put (row_bytes instr_bytes) self.entry.to out.old out.new at result (instrs_from self.entry.from self.entry.reads.now at.p n)
+        ensures { Done (row_bytes instr_bytes) self.entry.to out.old out.new at result (instrs_from self.entry.from self.entry.reads.now at.p n)
             (instrs_end self.entry.from self.entry.reads.now at.p n) }
     {
         let mut to = at;
@@ -124,7 +123,7 @@ impl Source<'_> {
     fn put_block(self, out: &mut [u8], at: Spot) -> Spot
         requires { Stands block_bytes (RangedBlock self.to) self.from self.to self.reads.now at (block_in self.from self.reads.now at.p)
             (block_end self.from self.reads.now at.p) }
-        ensures { Put block_bytes self.entry.to out.old out.new at result (block_in self.entry.from self.entry.reads.now at.p)
+        ensures { Done block_bytes self.entry.to out.old out.new at result (block_in self.entry.from self.entry.reads.now at.p)
             (block_end self.entry.from self.entry.reads.now at.p) }
     {
         let (n, p) = read_layout::block_head(self.reads, at.p);
@@ -136,7 +135,7 @@ impl Source<'_> {
     fn put_blocks(self, out: &mut [u8], at: Spot, n: usize) -> Spot
         requires { Stands (row_bytes block_bytes) (Each (λ left b. RangedBlock self.to b)) self.from self.to self.reads.now at
             (blocks_in self.from self.reads.now at.p n) (blocks_behind self.from self.reads.now at.p n) }
-        ensures { Put (row_bytes block_bytes) self.entry.to out.old out.new at result (blocks_in self.entry.from self.entry.reads.now at.p n)
+        ensures { Done (row_bytes block_bytes) self.entry.to out.old out.new at result (blocks_in self.entry.from self.entry.reads.now at.p n)
             (blocks_behind self.entry.from self.entry.reads.now at.p n) }
     {
         let mut to = at;
@@ -148,7 +147,7 @@ impl Source<'_> {
 
     // The record in the version that is wanted, which has so many bytes: L, the version, all up to the blocks as it stands, and the blocks.
     fn put_record(self, out: &mut [u8], layout: Layout, size: u32)
-        requires { Whole self.version self.reads.now size × (layout ≡ layout_of self.reads.now) }
+        requires { Measured self.version self.reads.now size × (layout ≡ layout_of self.reads.now) }
         ensures { out.new ≡ put out.old 0 (bytes (in_version self.entry.version (record_in self.entry.reads.now))) }
     {
         write_bytes::put_u32(out, 0, size - 4);
@@ -157,10 +156,25 @@ impl Source<'_> {
         let q = write_bytes::copy_bytes(self.reads, 5, p - 5, out, 5);
         self.put_blocks(out, Spot { p, q }, layout.blocks);
     }
+
+    // That record written whole or not at all: how many bytes are written; or the place of the first instruction whose id has no room, or the
+    // bytes that the output is too short for.
+    fn put(self, out: &mut [u8], layout: Layout) -> Result<usize, ConvertError>
+        requires { Checked self.version self.reads.now × (layout ≡ layout_of self.reads.now) }
+        ensures { (result ≡ convert self.entry.version self.entry.reads.now out.old) ×
+            (out.new ≡ convert_leaves self.entry.version self.entry.reads.now out.old) }
+    {
+        let size = self.size(layout)?;
+        if out.len() < size {
+            return Err(ConvertError::Room(size));
+        }
+        // as: the number fits, or u32 and usize have no From; try_from would give an error that cannot happen.
+        self.put_record(out, layout, size as u32);
+        Ok(size)
+    }
 }
 
-// The record in a version, written whole or not at all: how many bytes are written; or check's refusal, the place of the first instruction whose id
-// has no room, or the bytes that the output is too short for.
+// The record in a version: how many bytes are written; or check's refusal, or why an accepted record is not written.
 fn convert(input: &[u8], output: &mut [u8], version: u8) -> Result<usize, ConvertError>
     requires { version_test version ≡ Ok tt }
     ensures { (result ≡ convert version input.now output.old) × (output.new ≡ convert_leaves version input.now output.old) }
@@ -173,13 +187,7 @@ fn convert(input: &[u8], output: &mut [u8], version: u8) -> Result<usize, Conver
         from: layout.width,
         to: read_layout::id_bytes(u64::from(version)),
     };
-    let size = source.size(layout)?;
-    if output.len() < size {
-        return Err(ConvertError::Room(size));
-    }
-    // as: the number fits, or u32 and usize have no From; try_from would give an error that cannot happen.
-    source.put_record(output, layout, size as u32);
-    Ok(size)
+    source.put(output, layout)
 }
 
 // The record with ids of eight bytes, which have room for each id.

@@ -2,7 +2,7 @@
 use Rattle.std.specs.Prelude.{ℕ, ◌+◌, ◌*◌, ◌<◌, ◌≤◌, List, [], ◌∷◌, ◌++◌, map, ◌≡◌}
 use Rattle.record.specs.declared.NameIx.{NameIx}
 use Rattle.record.specs.Record.{Instr, arg}
-use Rattle.record.specs.Write.{join, instr_bytes}
+use Rattle.record.specs.Write.{row_bytes, instr_bytes}
 use Rattle.record.specs.Decode.{instr_from, instr_end}
 use Rattle.record.specs.Again.{instrs_from, instrs_end, Passing}
 use Rattle.record.specs.Sizes.{longest_instr, longest_lines, places_end}
@@ -15,7 +15,7 @@ use Rattle.read_layout.specs.declared.Spot.{Spot}
 
 -- ---- writing
 unfoldable pub body_bytes : ℕ → List Instr → List ℕ
-body_bytes w is = join (map (instr_bytes w) is)
+body_bytes w is = row_bytes instr_bytes w is
 
 -- what saves save
 abbrev pub saved_by : List Instr → List ℕ

@@ -23,3 +23,4 @@ pub mod Ends
 pub mod Judged
 pub mod Ids
 pub mod Versions
+pub mod Octets

@@ -75,10 +75,14 @@ module _ (w : ℕ) (s : List ℕ) (at : ℕ) where
   unfoldable pub instr_end : ℕ
   instr_end = operands_end (shape_of (num_at s (at + w) 1)) s (at + w + 1)
 
+-- n instructions from a place on
+abbrev pub body_placed : ℕ → List ℕ → ℕ → ℕ → List Placed
+body_placed w s at n = items (placed_from w s) (instr_end w s) at n
+
 -- ---- a block
 module _ (w : ℕ) (s : List ℕ) (at : ℕ) where
   unfoldable pub body_from : List Placed
-  body_from = items (placed_from w s) (instr_end w s) (at + 2 + 2) (num_at s at 2)
+  body_from = body_placed w s (at + 2 + 2) (num_at s at 2)
 
   abbrev pub block_from : Block Placed
   block_from = record { saves = num_at s (at + 2) 2; body = body_from }

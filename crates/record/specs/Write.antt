@@ -16,6 +16,10 @@ unfoldable pub join : List (List ℕ) → List ℕ
 join [] = []
 join (b ∷ bs) = b ++ join bs
 
+-- the bytes of a row of parts; one: those of a part, w: the bytes of an id
+abbrev pub row_bytes : {A : Type 0} → (ℕ → A → List ℕ) → ℕ → List A → List ℕ
+row_bytes one w xs = join (map (one w) xs)
+
 unfoldable pub when : Bool → List ℕ → List ℕ
 when true bs = bs
 when false bs = []

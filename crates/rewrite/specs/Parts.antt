@@ -27,7 +27,7 @@ front_parts r =
     be 1 r.version ∷ be 1 r.args ∷ be 2 (length r.names) ∷ join (map name_bytes r.names) ∷ be 2 (length r.blocks) ∷ []
 
 abbrev pub blocks_bytes : Record Instr → List ℕ
-blocks_bytes r = join (map (block_bytes (id_bytes r.version)) r.blocks)
+blocks_bytes r = row_bytes block_bytes (id_bytes r.version) r.blocks
 
 -- how long its parts can be: what stands before the blocks, the blocks, and all
 abbrev pub longest_front : ℕ

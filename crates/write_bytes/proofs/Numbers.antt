@@ -5,7 +5,8 @@ use mathlib.Core.Logic.{inl, inr}
 use mathlib.Core.Bool.{Bool, true, false, cond}
 use mathlib.Core.List.{List, ◌∷◌}
 use lib.ListN.{take, drop}
-use lib.Dec.{eqb}
+use lib.Dec.{ltb, eqb}
+use borrow.Author.Tests.{lt-ltb}
 use native.Mathlib.Omega.{arith}
 use native.Mathlib.Nat.{add_assoc, add-mul, one-mul, mul_comm, mul_assoc, mul-le-mul_right, one-le-pow, pow-suc, mod-lt, mod-mod, mod-eq_of_lt, div-eq_of_lt, div-add-mod', mul-add-mod_self_right, mul-add-div_right}
 use Rattle.record.specs.Record.{id_bytes}
@@ -84,6 +85,13 @@ width_four (inr e) h = absurd (h e)
 pub width_most : {w : ℕ} → IdWidth w → w ≤ 8
 width_most (inl e) = omega arith
 width_most (inr e) = omega arith
+
+-- whether a number has room
+pub fits_eight : (w x : ℕ) → w ≡ 8 → x < 256 ^ 8 → true ≡ ltb x (256 ^ w)
+fits_eight w x e h = rw e (sym (lt-ltb x (256 ^ 8) h))
+
+pub fits_four : (w x : ℕ) → IdWidth w → (w ≡ 8 → ⊥) → ltb x (256 ^ 4) ≡ ltb x (256 ^ w)
+fits_four w x d n = ap (λ (k : ℕ). ltb x (256 ^ k)) (sym (width_four d n))
 
 pub id_width : (version : ℕ) → IdWidth (id_bytes version)
 unfolding id_bytes

@@ -5,7 +5,7 @@
 // places would have to know the n of what is yet to come.
 #![tactic(auto)]
 
-ghost use Rattle.std.specs.Prelude.{◌≡◌, ◌+◌, ◌-◌, ◌^◌, ◌<◌, ◌≤◌, length, take, drop};
+ghost use Rattle.std.specs.Prelude.{◌≡◌, ◌+◌, ◌-◌, ◌^◌, ◌<◌, ◌≤◌, length, ltb, take, drop};
 ghost use Rattle.record.specs.Write.{be, name_bytes};
 ghost use Rattle.numbering.specs.Made.{digits, made_text};
 ghost use Rattle.read_fields.specs.Places.{places};
@@ -73,6 +73,14 @@ pub fn put_word(out: &mut [u8], at: usize, w: usize, x: u64)
         // as: the number fits, or u64 and usize have no From; try_from would give an error that cannot happen.
         put_u32(out, at, x as u32);
     }
+}
+
+// Whether x has room in w bytes.
+pub fn word_fits(w: usize, x: u64) -> bool
+    requires { IdWidth w }
+    ensures { result ≡ ltb x (256 ^ w) }
+{
+    w == 8 || x < 1 << 32
 }
 
 // A text; the place behind it.

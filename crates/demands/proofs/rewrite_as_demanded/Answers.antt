@@ -1,7 +1,7 @@
 -- `demands::rewrite_as_demanded` meets its contract: by the contract of rewrite and the theorems about the definitions.
 use native.Mathlib.Omega.{arith}
 use Rattle.pairing.proofs.Contract.{contract_meets_demands}
-use Rattle.demands.proofs.Octets.{octets}
+use Rattle.record.proofs.Octets.{octets}
 use Rattle.demands.proofs.rewrite_as_demanded.Goals as goal
 
 -- of a slice that is lent it is known that each element is a value of its type
