@@ -2,40 +2,34 @@
 use Prim.Native.Nat.{◌-◌, ◌<◌}
 use mathlib.Core.Path.{◌≡◌, sym, subst}
 use native.Mathlib.Omega.{arith}
-use Rattle.record.specs.Ranged.{RangedBlock}
-use Rattle.record.specs.Write.{block_bytes}
-use Rattle.record.specs.Decode.{block_end}
-use Rattle.record.specs.Again.{block_in, blocks_in, blocks_behind}
-use Rattle.record.proofs.Ends.{block_past}
-use Rattle.convert.proofs.Rows.{Row, row_first, row_rest, going_all, going_less, going_none}
+use Rattle.record.specs.Again.{blocks_in, blocks_behind}
+use Rattle.convert.proofs.Rows.{blocks, Row, row_first, row_rest, going_all, going_less, going_none}
 use Rattle.convert.proofs.Source.put_blocks.Goals as goal
 
 pub loop-init : goal.loop-init
 unfolding blocks_in blocks_behind
 loop-init c = let a = c.args in
-    let s = a.self.reads.now in
-    let z : a.n - 0 ≡ a.n = omega arith in (
-      subst (Row block_bytes (RangedBlock a.self.to) (block_in a.self.from s) (block_end a.self.from s) a.self.from a.self.to s (block_past a.self.from s) a.at) (sym z) c.requires,
-      going_all block_bytes (RangedBlock a.self.to) (block_in a.self.from s) (block_end a.self.from s) a.self.from a.self.to s (block_past a.self.from s) a.at _ _ z,
-    )
+    let kind = blocks a.self.from a.self.reads.now in
+    let z : a.n - 0 ≡ a.n = omega arith in
+    (subst (Row kind a.self.to a.at) (sym z) c.requires, going_all kind a.self.to a.at _ _ z)
 
 pub put_block-to-requires : goal.put_block-to-requires
 put_block-to-requires c = let a = c.args in
-    let s = a.self.reads.now in
-    row_first block_bytes (RangedBlock a.self.to) (block_in a.self.from s) (block_end a.self.from s) a.self.from a.self.to s (block_past a.self.from s) c.loop.to (a.n - c.loop.counter) (omega (arith, c.loop-test.true)) c.loop.invariant.0
+    let kind = blocks a.self.from a.self.reads.now in
+    row_first kind a.self.to c.loop.to (a.n - c.loop.counter) (omega (arith, c.loop-test.true)) c.loop.invariant.0
 
 pub loop-preserved : goal.loop-preserved
 loop-preserved c = let a = c.args in
-    let s = a.self.reads.now in
-    let n = a.n - c.loop.counter in
+    let kind = blocks a.self.from a.self.reads.now in
+    let left = a.n - c.loop.counter in
     let more : c.loop.counter < a.n = c.loop-test.true in
     let done = c.put_block-to in (
-      row_rest block_bytes (RangedBlock a.self.to) (block_in a.self.from s) (block_end a.self.from s) a.self.from a.self.to s (block_past a.self.from s) c.loop.to done.result n _ (omega (arith, more)) (omega arith) done.ensures c.loop.invariant.0,
-      going_less block_bytes (RangedBlock a.self.to) (block_in a.self.from s) (block_end a.self.from s) a.self.from a.self.to s (block_past a.self.from s) a.at a.n c.loop.to done.result n _ (omega (arith, more)) (omega arith) done.ensures c.loop.invariant.1,
+      row_rest kind a.self.to c.loop.to done.result left _ (omega (arith, more)) (omega arith) done.ensures c.loop.invariant.0,
+      going_less kind a.self.to a.at a.n c.loop.to done.result left _ (omega (arith, more)) (omega arith) done.ensures c.loop.invariant.1,
     )
 
 pub returns : goal.returns
 unfolding blocks_in blocks_behind
 returns c = let a = c.args in
-    let s = a.self.reads.now in
-    going_none block_bytes (RangedBlock a.self.to) (block_in a.self.from s) (block_end a.self.from s) a.self.from a.self.to s (block_past a.self.from s) a.at a.n c.loop.to (a.n - c.loop.counter) (omega arith) c.loop.invariant.1
+    let kind = blocks a.self.from a.self.reads.now in
+    going_none kind a.self.to a.at a.n c.loop.to (a.n - c.loop.counter) (omega arith) c.loop.invariant.1
