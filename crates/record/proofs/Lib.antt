@@ -22,5 +22,6 @@ pub mod Again
 pub mod Ends
 pub mod Judged
 pub mod Ids
+pub mod Resized
 pub mod Versions
 pub mod Octets
