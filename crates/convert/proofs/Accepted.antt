@@ -1,17 +1,16 @@
 -- An accepted record: what is found of its ids, how many bytes it needs, and that the answer is the definition's.
-use Prim.Native.Nat.{ℕ, suc, ◌+◌, ◌-◌, ◌*◌, ◌^◌, ◌<◌, ◌≤◌}
+use Prim.Native.Nat.{ℕ, ◌+◌, ◌-◌, ◌*◌, ◌^◌, ◌<◌, ◌≤◌}
 use mathlib.Core.Path.{◌≡◌, sym, ap, ◌∙◌, subst}
-use mathlib.Core.List.{List, [], ◌∷◌}
+use mathlib.Core.List.{List}
 use native.Mathlib.Omega.{arith}
-use lib.ListN.{length, get_or, length-map}
+use lib.ListN.{length, length-map}
 use Rattle.std.specs.Prelude.{Ok, Err, Option, None}
 use Rattle.record.specs.declared.ConvertError.{ConvertError}
 use Rattle.record.specs.declared.ConvertError.TheVariants.{Refused, Wide, Room}
 use Rattle.record.specs.declared.Fault.{Fault}
-use Rattle.record.specs.Record.{Bytes, Instr, Placed, Record, limits, id_bytes}
+use Rattle.record.specs.Record.{Instr, Placed, Record, limits, id_bytes}
 use Rattle.record.specs.Reader.{got, num_at}
 use Rattle.record.specs.Read.{read}
-use Rattle.record.specs.Tests.{version_test}
 use Rattle.record.specs.Answer.{checked}
 use Rattle.record.specs.Typing.{accept}
 use Rattle.record.specs.Write.{bytes}

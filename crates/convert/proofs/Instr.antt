@@ -2,12 +2,9 @@
 use Prim.Native.Nat.{ℕ, ◌+◌, ◌-◌, ◌^◌, ◌<◌, ◌≤◌}
 use mathlib.Core.Path.{◌≡◌, refl, sym, ap, ◌∙◌, subst}
 use mathlib.Core.List.{List, [], ◌∷◌, ◌++◌, append_assoc}
-use mathlib.Core.Bool.{true}
 use native.Mathlib.Omega.{arith}
 use lib.ListN.{length, take, drop, length-append}
 use lib.Seq.{take-append_seam}
-use lib.Dec.{ltb}
-use borrow.Author.Tests.{lt-ltb}
 use Rattle.record.specs.Record.{Instr}
 use Rattle.record.specs.Shape.{shape_of}
 use Rattle.record.specs.Reader.{num_at}
@@ -18,8 +15,7 @@ use Rattle.record.specs.Ranged.{RangedInstr}
 use Rattle.record.proofs.Stands.{past, length_be}
 use Rattle.record.proofs.Ends.{instr_past, instr_on}
 use Rattle.read_layout.specs.declared.Spot.{Spot}
-use Rattle.write_bytes.specs.Put.{put, Wrote, IdWidth}
-use Rattle.write_bytes.proofs.Numbers.{width_four}
+use Rattle.write_bytes.specs.Put.{put, Wrote}
 use Rattle.write_bytes.proofs.Wrote.{wrote_number, wrote_append}
 use Rattle.convert.specs.Parts.{Stands, Done}
 

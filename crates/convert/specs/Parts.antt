@@ -1,12 +1,12 @@
 -- What the code asks of the parts that it converts, instructions, blocks and rows of both, and what it then has.
-use Rattle.std.specs.Prelude.{Ok, Err, Option, Some, None, ℕ, ◌+◌, ◌<◌, ◌≤◌, List, ◌++◌, map, ◌≡◌, length, drop}
+use Rattle.std.specs.Prelude.{Ok, Err, Option, Some, None, ℕ, ◌+◌, ◌<◌, ◌≤◌, List, ◌++◌, ◌≡◌, length, drop}
 use mathlib.Core.List.{flat_map}
 use Rattle.record.specs.Record.{Bytes, Placed}
 use Rattle.record.specs.Tests.{version_test}
 use Rattle.record.specs.Answer.{checked}
 use Rattle.record.specs.Ranged.{Ranged}
-use Rattle.record.specs.Write.{join, bytes}
-use Rattle.record.specs.Decode.{items, placed_from, instr_end, block_from, block_end, names_end, blocks_end}
+use Rattle.record.specs.Write.{bytes}
+use Rattle.record.specs.Decode.{items, block_from, block_end, names_end, blocks_end}
 use Rattle.record.specs.Again.{record_in}
 use Rattle.record.specs.declared.ConvertError.TheVariants.{Wide}
 use Rattle.record.specs.Versions.{in_version, Converted}

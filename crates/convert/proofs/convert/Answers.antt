@@ -1,5 +1,5 @@
 -- `convert::convert` meets its contract: check's refusal, or what is done with an accepted record.
-use mathlib.Core.Path.{◌≡◌, sym, ap, ◌∙◌}
+use mathlib.Core.Path.{sym, ap, ◌∙◌}
 use native.Mathlib.Omega.{arith}
 use Rattle.record.specs.Record.{id_bytes}
 use Rattle.record.proofs.Following.{handed_on}
@@ -17,15 +17,15 @@ returns-in_err-check c = let a = c.args in
 pub invariant_of-source : goal.invariant_of-source
 unfolding layout_of
 invariant_of-source c = record {
-      widths = (ap (λ (l : Layout). l.width) c.layout_of-layout.ensures.0, c.id_bytes.ensures.0 ∙ ap id_bytes c.from.ensures);
-    }
+  widths = (ap (λ (l : Layout). l.width) c.layout_of-layout.ensures.0, c.id_bytes.ensures.0 ∙ ap id_bytes c.from.ensures);
+}
 
 pub put-requires : goal.put-requires
 put-requires c = let a = c.args in (
-    record {
-      bytes = octets a.input.now (λ i. omega (arith, c.type_inv.input i));
-      accepted = sym c.check.ensures ∙ c.in_ok-check.was;
-      known = c.requires;
-    },
-    c.layout_of-layout.ensures.0,
-  )
+  record {
+    bytes = octets a.input.now (λ i. omega (arith, c.type_inv.input i));
+    accepted = sym c.check.ensures ∙ c.in_ok-check.was;
+    known = c.requires;
+  },
+  c.layout_of-layout.ensures.0,
+)
