@@ -29,6 +29,7 @@ use Rattle.record.proofs.Judged.{accepted_as}
 use Rattle.record.proofs.Longest.{record_most}
 use Rattle.record.proofs.Ranged.{read_ranged}
 use Rattle.record.proofs.ReadFrom.{accept_from}
+use Rattle.record.proofs.Resized.{version_size}
 use Rattle.record.proofs.Typed.{accept_typed}
 use Rattle.record.proofs.Versions.{refused_exactly, wide_refused, untouched, converts}
 use Rattle.write_bytes.specs.Put.{put}
@@ -37,7 +38,6 @@ use Rattle.read_layout.specs.declared.Layout.{Layout}
 use Rattle.read_layout.specs.Layout.{layout_of}
 use Rattle.convert.specs.Parts.{blocks_placed, scanned, Accepted, Whole}
 use Rattle.convert.proofs.Scan.{found_ok, found_err}
-use Rattle.convert.proofs.Size.{version_size}
 
 -- what a slice of bytes holds
 bytes_of : (s : List ℕ) → ((i : ℕ) → get_or s i 0 < 256) → Bytes s

@@ -24,7 +24,7 @@ use Rattle.numbering.specs.Simplify.{ordered, simplify}
 use Rattle.numbering.specs.Number.{reads, numbered, make_val, make_id_instr, val_to_instr, rewrite_instr, Saved, save, handle_overwrite, get_val_num, Emitted, number_dest, place, by_form, instr_lvn, block_lvn, blocks_lvn, lvn}
 use Rattle.numbering.proofs.Overwritten.{Overwritten, kept, moved, overwritten}
 use Rattle.numbering.proofs.Given.{any_closed, any_known}
-use Rattle.numbering.proofs.Range.{each_append}
+use Rattle.record.proofs.Gives.{each_append}
 use Rattle.numbering.proofs.Simplified.{OutcomesOf, simplified_ok}
 
 -- ---- values

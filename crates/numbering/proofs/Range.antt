@@ -4,6 +4,7 @@ use mathlib.Core.Path.{◌≡◌}
 use mathlib.Core.Bool.{Bool, true, false, cond, not}
 use mathlib.Core.List.{List, [], ◌∷◌, ◌++◌, map}
 use native.Mathlib.Omega.{arith}
+use Rattle.record.proofs.Gives.{each_append}
 use Rattle.record.proofs.Written.{append_bytes}
 use lib.ListN.{length, get_or, length-map}
 use lib.Dec.{eqb}
@@ -154,11 +155,6 @@ made_names_ranged r h (x ∷ xs) k l =
       record { type = q.0; text = made_bytes (get_or (texts r) x.0 []) k q.1 },
       made_names_ranged r h xs (suc k) (λ j m. l (suc j) (omega arith)),
     )
-
-pub each_append :
-    {A : Type 0} (P : A → Type 0) (xs ys : List A) → Each (λ left x. P x) xs → Each (λ left x. P x) ys → Each (λ left x. P x) (xs ++ ys)
-each_append P [] ys h k = k
-each_append P (x ∷ xs) ys h k = (h.0, each_append P xs ys h.1 k)
 
 -- ---- a record
 pub rewriting_ranged : (r : Record Instr) → RecordOk limits r → Ranged r → Ranged (rewriting r)

@@ -2,20 +2,20 @@
 -- sentence. Widening and narrowing are defined in the crate record, specs/Versions.antt; this file puts together what the proofs/Versions.antt of
 -- record, numbering and running prove. Every other theorem on records is over the width of an id, and so of both versions: demands 1 to 3
 -- and the sizes in Theorems.antt, running an accession in TheoremsRunning.antt.
-use Prim.Native.Nat.{ℕ, ◌≤◌}
-use mathlib.Core.Path.{◌≡◌, ap, subst, sym}
+use Prim.Native.Nat.{ℕ, ◌*◌, ◌≤◌}
+use mathlib.Core.Path.{◌≡◌, ap}
 use mathlib.Core.Logic.{◌↔◌}
 use mathlib.Core.List.{List, ◌++◌}
 use lib.ListN.{length, take, drop}
-use Rattle.std.specs.Prelude.{Some, None, Ok, Err}
+use Rattle.std.specs.Prelude.{Ok, Err}
 use Rattle.record.specs.declared.ConvertError.{ConvertError}
 use Rattle.record.specs.declared.ConvertError.TheVariants.{Refused, Wide}
 use Rattle.record.specs.declared.Fault.{Fault}
 use Rattle.record.specs.Record.{Bytes, Placed, Record, Function, plain, function, id_bytes}
 use Rattle.record.specs.Tests.{version_test}
 use Rattle.record.specs.Answer.{checked}
-use Rattle.record.specs.Versions.{in_version, converted_bytes, instructions, first_wide, convert, convert_leaves, widen, widen_leaves, narrow, narrow_leaves}
-use Rattle.record.proofs.Ids.{Fit, FirstWide, fit_none, first_is, ids, ids_of}
+use Rattle.record.specs.Versions.{in_version, converted_bytes, instructions, convert, convert_leaves, widen, widen_leaves, narrow, narrow_leaves}
+use Rattle.record.proofs.Ids.{Fit, FirstWide, none_wide, ids}
 use Rattle.record.proofs.Versions as versions
 use Rattle.record.proofs.Versions.{Converts, Back}
 use Rattle.numbering.specs.Made.{made, rewriting}
@@ -42,21 +42,26 @@ pub widening_is_never_15 : (s out : List ℕ) → Bytes s → (o : ℕ) → wide
 widening_is_never_15 = versions.widen_never_wide
 
 module _ (s : List ℕ) (r : Record Placed) (a : Accepted s r) where
-  -- "narrowing meets an id of 2^32 or more, at the first such instruction's offset": it is 15 whatever the room, and the ids before are less.
-  pub narrowing_meets_wide_id :
-      (out : List ℕ) (o : ℕ) →
-      first_wide (id_bytes 1) (instructions r) ≡ Some o →
-      (narrow s out ≡ Err (Wide o)) × FirstWide (id_bytes 1) (instructions r) o
-  narrowing_meets_wide_id out o e = (versions.wide_refused s a.bytes r a.end a.accepted 1 o out e, first_is (id_bytes 1) (instructions r) o e)
+  -- "narrowing meets an id of 2^32 or more, at the first such instruction's offset": it is 15 exactly then, whatever the room, and the ids of the
+  -- instructions before that one are less.
+  pub narrowing_meets_wide_id : (out : List ℕ) (o : ℕ) → (narrow s out ≡ Err (Wide o)) ↔ FirstWide (id_bytes 1) (instructions r) o
+  narrowing_meets_wide_id out o = versions.wide_exactly s a.bytes r a.end a.accepted 1 o out
 
   -- Where each id is below 2^32 it is narrowed: with room, the record in version 1 is written, and else it is 9 with the bytes needed.
   pub narrowing_is_done : Fit (id_bytes 1) (ids (plain r)) → Converts 1 s (converted_bytes 1 r)
-  narrowing_is_done f =
-      versions.converts s a.bytes r a.end a.accepted 1 (fit_none (id_bytes 1) (instructions r) (subst (Fit (id_bytes 1)) (sym (ids_of r)) f))
+  narrowing_is_done f = versions.converts s a.bytes r a.end a.accepted 1 (none_wide (id_bytes 1) r f)
 
   -- Every accepted record is widened so.
   pub widening_is_done : Converts 2 s (converted_bytes 2 r)
   widening_is_done = versions.widens s a.bytes r a.end a.accepted
+
+  -- Twice as many bytes as the input has are always enough to widen it,
+  pub twice_is_enough : length (converted_bytes 2 r) ≤ 2 * length s
+  twice_is_enough = versions.widened_size s a.bytes r a.end a.accepted
+
+  -- as many to narrow it.
+  pub as_many_is_enough : length (converted_bytes 1 r) ≤ length s
+  as_many_is_enough = versions.narrowed_size s a.bytes r a.end a.accepted
 
   -- "a record already in the wanted version comes out unchanged": so it needs its own length.
   pub comes_out_unchanged : (v : ℕ) → r.version ≡ v → Converts v s s
@@ -65,30 +70,30 @@ module _ (s : List ℕ) (r : Record Placed) (a : Accepted s r) where
   -- ---- what is written
   module _ (v : ℕ) (ok : version_test v ≡ Ok tt) where
     -- "no id is cut": what is written is bytes, which check accepts as the same record in that version, with the same ids.
-    pub is_accepted_again : first_wide (id_bytes v) (instructions r) ≡ None → Back v r
-    is_accepted_again = versions.accepted_again s a.bytes r a.end a.accepted v ok
+    pub is_accepted_again : Fit (id_bytes v) (ids (plain r)) → Back v r
+    is_accepted_again f = versions.accepted_again s a.bytes r a.end a.accepted v ok (none_wide (id_bytes v) r f)
 
     -- Its function is the same, and so is each run of it.
     pub runs_are_the_same :
-        (e : first_wide (id_bytes v) (instructions r) ≡ None) (σ : Store) (answers : List Answer) (n : ℕ) →
-        run (function (plain (is_accepted_again e).back)) σ answers n ≡ run (function (plain r)) σ answers n
-    runs_are_the_same e σ answers n = ap (λ (f : Function). run f σ answers n) (is_accepted_again e).same_function
+        (f : Fit (id_bytes v) (ids (plain r))) (σ : Store) (answers : List Answer) (n : ℕ) →
+        run (function (plain (is_accepted_again f).back)) σ answers n ≡ run (function (plain r)) σ answers n
+    runs_are_the_same f σ answers n = ap (λ (g : Function). run g σ answers n) (is_accepted_again f).same_function
 
     -- "runs included": calls of the engine with both, from one store and list of answers, are one run: the same events, each with its id as
     -- wide as in the record, the same final store, steps and ending;
     pub calls_are_the_same :
-        first_wide (id_bytes v) (instructions r) ≡ None → (store list : List ℕ) (limit : ℕ) (events left events₂ left₂ : List ℕ) →
+        Fit (id_bytes v) (ids (plain r)) → (store list : List ℕ) (limit : ℕ) (events left events₂ left₂ : List ℕ) →
         (e l k : ℕ) (how : Ending) (e₂ l₂ k₂ : ℕ) (how₂ : Ending) →
         engine s store list limit events left ≡ done e l k how →
         engine (converted_bytes v r) store list limit events₂ left₂ ≡ done e₂ l₂ k₂ how₂ →
         SameRun s (converted_bytes v r) store list limit (id_bytes r.version) (id_bytes v) events left events₂ left₂ e l k how e₂ l₂ k₂ how₂
-    calls_are_the_same = same_run s a.bytes r a.end a.accepted v ok
+    calls_are_the_same f = same_run s a.bytes r a.end a.accepted v ok (none_wide (id_bytes v) r f)
 
     -- 13 is of both or of none.
     pub calls_are_unfit_alike :
-        first_wide (id_bytes v) (instructions r) ≡ None → (store list : List ℕ) (limit : ℕ) (events left events₂ left₂ : List ℕ) →
+        Fit (id_bytes v) (ids (plain r)) → (store list : List ℕ) (limit : ℕ) (events left events₂ left₂ : List ℕ) →
         (engine s store list limit events left ≡ Err Unfit) ↔ (engine (converted_bytes v r) store list limit events₂ left₂ ≡ Err Unfit)
-    calls_are_unfit_alike = same_unfit s a.bytes r a.end a.accepted v ok
+    calls_are_unfit_alike f = same_unfit s a.bytes r a.end a.accepted v ok (none_wide (id_bytes v) r f)
 
     -- What was written, rewritten, is the rewriting of the input in that version, with as many saves.
     pub converting_then_rewriting :

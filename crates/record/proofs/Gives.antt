@@ -2,7 +2,7 @@
 -- A field's number passes the field's test and, where the bytes are bytes, is below 256 to the power of the field's width.
 use Prim.Native.Nat.{ℕ, zero, suc, ◌+◌, ◌-◌, ◌*◌, ◌^◌, ◌<◌, ◌≤◌}
 use mathlib.Core.Path.{◌≡◌, refl, sym, ap, subst, ◌∙◌}
-use mathlib.Core.List.{List, [], ◌∷◌, map}
+use mathlib.Core.List.{List, [], ◌∷◌, ◌++◌, map}
 use mathlib.Core.Bool.{Bool, true, false}
 use native.Mathlib.Omega.{arith}
 use native.Mathlib.Nat.{mul-le-mul_right}
@@ -153,3 +153,16 @@ each_map f P (x ∷ xs) h = (subst (λ (k : ℕ). P k (f x)) (sym (length-map xs
 pub each_both : {A : Type 0} (P Q : ℕ → A → Type 0) (xs : List A) → Each P xs → Each Q xs → Each (λ left x. P left x × Q left x) xs
 each_both P Q [] h k = tt
 each_both P Q (x ∷ xs) h k = ((h.0, k.0), each_both P Q xs h.1 k.1)
+
+-- one fact of the items of two lists
+pub each_append :
+    {A : Type 0} (P : A → Type 0) (xs ys : List A) → Each (λ left x. P x) xs → Each (λ left x. P x) ys → Each (λ left x. P x) (xs ++ ys)
+each_append P [] ys h k = k
+each_append P (x ∷ xs) ys h k = (h.0, each_append P xs ys h.1 k)
+
+pub each_parts :
+    {A : Type 0} (P : A → Type 0) (xs ys : List A) →
+    Each (λ left x. P x) (xs ++ ys) →
+    Each (λ left x. P x) xs × Each (λ left x. P x) ys
+each_parts P [] ys h = (tt, h)
+each_parts P (x ∷ xs) ys h = let k = each_parts P xs ys h.1 in ((h.0, k.0), k.1)

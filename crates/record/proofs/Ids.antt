@@ -1,12 +1,12 @@
 -- The ids of a record's instructions: which of them fit so many bytes, and that this is all that stands between a record and another version of it.
 use Prim.Native.Nat.{ℕ, ◌^◌, ◌<◌, ◌≤◌}
-use mathlib.Core.Path.{◌≡◌, refl, ap, ◌∙◌}
+use mathlib.Core.Path.{◌≡◌, refl, sym, ap, ◌∙◌, subst}
 use mathlib.Core.List.{List, [], ◌∷◌, ◌++◌, map, flat_map, map-append}
 use mathlib.Core.Bool.{Bool, true, false, cond}
 use native.Mathlib.Omega.{arith}
 use native.Mathlib.Nat.{pow-le-pow_right}
 use lib.Dec.{ltb}
-use borrow.Author.Tests.{ltb-true, ltb-false, lt-ltb}
+use borrow.Author.Tests.{ltb-true, ltb-false, lt-ltb, le-ltb}
 use Rattle.arith.proofs.Clash.{clash}
 use Rattle.std.specs.Prelude.{Some, None, Ok}
 use Rattle.record.specs.Record.{Instr, Placed, Block, Record, plain_block, plain, limits, id_bytes}
@@ -14,6 +14,7 @@ use Rattle.record.specs.Tests.{version_test}
 use Rattle.record.specs.Versions.{in_version, instructions, first_wide}
 use Rattle.record.specs.Good.{Each, RecordOk}
 use Rattle.record.specs.Ranged.{RangedInstr, RangedBlock, Ranged}
+use Rattle.record.proofs.Gives.{each_append, each_parts}
 
 -- of a list, and of all instructions, block by block
 abbrev pub ids_in : List Instr → List ℕ
@@ -25,14 +26,6 @@ ids r = flat_map (λ b. ids_in b.body) r.blocks
 -- each is below 2^32, or 2^64: it fits w bytes
 abbrev pub Fit : ℕ → List ℕ → Type 0
 Fit w xs = Each (λ left x. x < 256 ^ w) xs
-
-fit_append : (w : ℕ) (xs ys : List ℕ) → Fit w xs → Fit w ys → Fit w (xs ++ ys)
-fit_append w [] ys h k = k
-fit_append w (x ∷ xs) ys h k = (h.0, fit_append w xs ys h.1 k)
-
-fit_parts : (w : ℕ) (xs ys : List ℕ) → Fit w (xs ++ ys) → Fit w xs × Fit w ys
-fit_parts w [] ys h = (tt, h)
-fit_parts w (x ∷ xs) ys h = let k = fit_parts w xs ys h.1 in ((h.0, k.0), k.1)
 
 -- ---- the first that does not fit
 -- no instruction is wide exactly if each id fits
@@ -93,6 +86,20 @@ first_is w (i ∷ is) o e = go (ltb i.it.id (256 ^ w)) refl (first_is w is o) e
           place = cc;
         }
 
+-- and whatever is so is what is found
+first_at :
+    (w : ℕ) (before : List Placed) (i : Placed) (rest : List Placed) →
+    Fit w (map (λ i. i.it.id) before) →
+    256 ^ w ≤ i.it.id →
+    first_wide w (before ++ (i ∷ rest)) ≡ Some i.at
+unfolding first_wide
+first_at w [] i rest h k = rw (le-ltb i.it.id (256 ^ w) k) refl
+first_at w (j ∷ before) i rest h k = rw (lt-ltb j.it.id (256 ^ w) h.0) (first_at w before i rest h.1 k)
+
+pub is_first : (w : ℕ) (is : List Placed) (o : ℕ) → FirstWide w is o → first_wide w is ≡ Some o
+is_first w is o h =
+    ap (λ (t : List Placed). first_wide w t) h.split ∙ first_at w h.before h.first h.rest h.fit h.wide ∙ ap (λ (n : ℕ). Some n) h.place
+
 -- ---- of a record
 -- the offsets do not matter
 ids_of_body : (is : List Placed) → map (λ i. i.it.id) is ≡ ids_in (map (λ i. i.it) is)
@@ -111,6 +118,13 @@ ids_of_blocks (b ∷ bs) =
 pub ids_of : (r : Record Placed) → map (λ i. i.it.id) (instructions r) ≡ ids (plain r)
 ids_of r = ids_of_blocks r.blocks
 
+-- no instruction of it is wide exactly if each of its ids fits
+pub none_wide : (w : ℕ) (r : Record Placed) → Fit w (ids (plain r)) → first_wide w (instructions r) ≡ None
+none_wide w r h = fit_none w (instructions r) (subst (Fit w) (sym (ids_of r)) h)
+
+pub all_fit : (w : ℕ) (r : Record Placed) → first_wide w (instructions r) ≡ None → Fit w (ids (plain r))
+all_fit w r e = subst (Fit w) (ids_of r) (none_fit w (instructions r) e)
+
 -- the ids of a record that fits its fields
 body_fits : (w : ℕ) (is : List Instr) → Each (λ left i. RangedInstr w i) is → Fit w (ids_in is)
 body_fits w [] h = tt
@@ -119,7 +133,8 @@ body_fits w (i ∷ is) h = (h.0.id, body_fits w is h.1)
 blocks_fit : (w : ℕ) (bs : List (Block Instr)) → Each (λ left b. RangedBlock w b) bs → Fit w (flat_map (λ b. ids_in b.body) bs)
 unfolding flat_map
 blocks_fit w [] h = tt
-blocks_fit w (b ∷ bs) h = fit_append w (ids_in b.body) (flat_map (λ b. ids_in b.body) bs) (body_fits w b.body h.0.body) (blocks_fit w bs h.1)
+blocks_fit w (b ∷ bs) h =
+    each_append (λ x. x < 256 ^ w) (ids_in b.body) (flat_map (λ b. ids_in b.body) bs) (body_fits w b.body h.0.body) (blocks_fit w bs h.1)
 
 pub ranged_fit : (r : Record Instr) → Ranged r → Fit (id_bytes r.version) (ids r)
 ranged_fit r h = blocks_fit (id_bytes r.version) r.blocks h.blocks
@@ -138,7 +153,7 @@ module _ (v w : ℕ) where
   unfolding flat_map
   blocks_ranged [] h k = tt
   blocks_ranged (b ∷ bs) h k =
-      let both = fit_parts w (ids_in b.body) (flat_map (λ b. ids_in b.body) bs) k in
+      let both = each_parts (λ x. x < 256 ^ w) (ids_in b.body) (flat_map (λ b. ids_in b.body) bs) k in
       (record { saves = h.0.saves; body = body_ranged b.body h.0.body both.0 }, blocks_ranged bs h.1 both.1)
 
 pub ranged_in : (v : ℕ) (r : Record Instr) → Ranged r → Fit (id_bytes v) (ids r) → Ranged (in_version v r)

@@ -22,4 +22,5 @@ pub mod Again
 pub mod Ends
 pub mod Judged
 pub mod Ids
+pub mod Resized
 pub mod Versions

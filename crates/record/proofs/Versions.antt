@@ -1,6 +1,6 @@
 -- "A widening and a narrowing are added" (document 02, Point 7): what is proved of a conversion to either version, each theorem with its sentence.
 -- Each is one theorem over the version that is wanted, and so both directions; what is proved of a record's ids is in Ids.
-use Prim.Native.Nat.{ℕ, ◌^◌, ◌<◌, ◌≤◌}
+use Prim.Native.Nat.{ℕ, ◌*◌, ◌^◌, ◌<◌, ◌≤◌}
 use mathlib.Core.Path.{◌≡◌, refl, sym, ap, ◌∙◌, subst}
 use mathlib.Core.Logic.{◌↔◌}
 use mathlib.Core.List.{List, ◌++◌, map}
@@ -33,7 +33,8 @@ use Rattle.record.proofs.Written.{bytes_written}
 use Rattle.record.proofs.Longest.{record_most}
 use Rattle.record.proofs.Sizes.{record_size, id_bytes_are}
 use Rattle.record.proofs.Typed.{accept_typed, accepts_back}
-use Rattle.record.proofs.Ids.{Fit, none_fit, fit_none, ids, ids_of, ranged_fit, ranged_in, good_in, fit_more}
+use Rattle.record.proofs.Ids.{Fit, FirstWide, first_is, is_first, none_wide, all_fit, ids, ids_of, ranged_fit, ranged_in, good_in, fit_more}
+use Rattle.record.proofs.Resized.{at_most_twice, no_longer}
 
 -- ---- the three answers
 -- "after check's refusals": what check refuses is refused so, whatever the output, and nothing else is
@@ -100,6 +101,24 @@ module _ (s : List ℕ) (h : Bytes s) (r : Record Placed) (p : ℕ) (a : accept 
   unfolding convert convert_result converted_as
   wide_refused v o out e = rw (a, e)
 
+  -- and it is 15 for no other reason
+  wide_found : (v o : ℕ) (out : List ℕ) → convert v s out ≡ Err (Wide o) → first_wide (id_bytes v) (instructions r) ≡ Some o
+  unfolding convert convert_result converted_as
+  wide_found v o out e = go (first_wide (id_bytes v) (instructions r)) (length (converted_bytes v r)) (rw a at e)
+    where
+      room : (b : Bool) (m : ℕ) {A : Type 0} → cond b (Err (Room m)) (Ok m) ≡ Err (Wide o) → A
+      room true m e = clash (cc)
+      room false m e = clash (cc)
+
+      go : (w : Option ℕ) (m : ℕ) → converted_as w (length out) m ≡ Err (Wide o) → w ≡ Some o
+      go (Some q) m e = cc
+      go None m e = room (ltb (length out) m) m e
+
+  pub wide_exactly : (v o : ℕ) (out : List ℕ) → (convert v s out ≡ Err (Wide o)) ↔ FirstWide (id_bytes v) (instructions r) o
+  wide_exactly v o out =
+      let is = instructions r in
+      (λ e. first_is (id_bytes v) is o (wide_found v o out e), λ f. wide_refused v o out (is_first (id_bytes v) is o f))
+
   -- without one it is converted
   pub converts : (v : ℕ) → first_wide (id_bytes v) (instructions r) ≡ None → Converts v s (converted_bytes v r)
   unfolding convert convert_leaves convert_result convert_output converted_as written_as
@@ -117,9 +136,7 @@ module _ (s : List ℕ) (h : Bytes s) (r : Record Placed) (p : ℕ) (a : accept 
 
   -- so a widening never meets 15
   pub widening_fits : (v : ℕ) → id_bytes r.version ≤ id_bytes v → first_wide (id_bytes v) (instructions r) ≡ None
-  widening_fits v l =
-      fit_none (id_bytes v) (instructions r)
-      (subst (Fit (id_bytes v)) (sym (ids_of r)) (fit_more (id_bytes r.version) (id_bytes v) (ids (plain r)) l fits_own))
+  widening_fits v l = none_wide (id_bytes v) r (fit_more (id_bytes r.version) (id_bytes v) (ids (plain r)) l fits_own)
 
   -- "a record already in the wanted version comes out unchanged"
   pub unchanged_bytes : (v : ℕ) → r.version ≡ v → converted_bytes v r ≡ s
@@ -137,7 +154,7 @@ module _ (s : List ℕ) (h : Bytes s) (r : Record Placed) (p : ℕ) (a : accept 
     good_again = good_in v (plain r) ok good
 
     fits_again : Ranged (in_version v (plain r))
-    fits_again = ranged_in v (plain r) ranged (subst (Fit (id_bytes v)) (ids_of r) (none_fit (id_bytes v) (instructions r) e))
+    fits_again = ranged_in v (plain r) ranged (all_fit (id_bytes v) r e)
 
     pub accepted_again : Back v r
     unfolding converted_bytes
@@ -189,8 +206,7 @@ module _ (s : List ℕ) (h : Bytes s) (r : Record Placed) (p : ℕ) (a : accept 
   back_again e =
       let b = accepted_again s h r p a v ok e in
       let fit : first_wide (id_bytes r.version) (instructions b.back) ≡ None =
-      fit_none (id_bytes r.version) (instructions b.back)
-      (subst (Fit (id_bytes r.version)) (sym (ids_of b.back ∙ ap ids b.same)) (fits_own s h r p a)) in
+      none_wide (id_bytes r.version) b.back (subst (Fit (id_bytes r.version)) (sym (ap ids b.same)) (fits_own s h r p a)) in
       let same : converted_bytes r.version b.back ≡ s =
       ap (λ (q : Record Instr). bytes (in_version r.version q)) b.same ∙ same_bytes_of s h r p a in
       subst (Converts r.version (converted_bytes v r)) same
@@ -224,15 +240,20 @@ module _ (s : List ℕ) (h : Bytes s) (r : Record Placed) (p : ℕ) (a : accept 
 
   -- and is never 15
   widened_fits : (out : List ℕ) (o : ℕ) → widen s out ≡ Err (Wide o) → ⊥
-  unfolding id_bytes convert convert_result converted_as
+  unfolding id_bytes
   widened_fits out o e =
       let fits = widening_fits s h r p a 2 (id_bytes_are r.version).1 in
-      let n = length (converted_bytes 2 r) in
-      go (ltb (length out) n) n (rw (a, fits) at e)
-    where
-      go : (b : Bool) (n : ℕ) → cond b (Err (Room n)) (Ok n) ≡ Err (Wide o) → ⊥
-      go true n e = cc
-      go false n e = cc
+      let wide = wide_found s h r p a 2 o out e in
+      clash (cc)
+
+  -- it has at most twice as many bytes as s in version 2, and no more than s in version 1
+  pub widened_size : length (converted_bytes 2 r) ≤ 2 * length s
+  unfolding converted_bytes
+  widened_size = omega (arith, at_most_twice 2 (plain r), ap length (same_bytes_of s h r p a))
+
+  pub narrowed_size : length (converted_bytes 1 r) ≤ length s
+  unfolding converted_bytes id_bytes
+  narrowed_size = omega (arith, no_longer 1 (plain r) (id_bytes_are r.version).0, ap length (same_bytes_of s h r p a))
 
   -- "Narrowing a widened version 1 record yields its original bytes"
   pub narrow_widened :

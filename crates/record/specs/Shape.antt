@@ -1,4 +1,4 @@
--- "Instruction: id (4), code (1), then ..": what follows each code. Codes without a row are unknown.
+-- "Instruction: id (4), code (1), then ..", where an id has 4 bytes, or 8 in version 2: what follows each code. Codes without a row are unknown.
 use Rattle.std.specs.Prelude.{ℕ, List, [], ◌∷◌, Bool, true, false, cond, leb}
 use Rattle.record.specs.declared.Shape.{Shape}
 

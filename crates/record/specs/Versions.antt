@@ -38,7 +38,7 @@ convert_answer (Err (Refused f)) = refusal f
 convert_answer (Err (Wide o)) = record { number = 15; values = o ∷ [] }
 convert_answer (Err (Room n)) = record { number = 9; values = n ∷ [] }
 
--- of an accepted record that needs n bytes, where there is room for so many; wide: the place of an id that does not fit
+-- of an accepted record: the place of an id that does not fit, if there is one; how many bytes are lent; how many are needed
 unfoldable pub converted_as : Option ℕ → ℕ → ℕ → Converted
 converted_as (Some o) room n = Err (Wide o)
 converted_as None room n = cond (ltb room n) (Err (Room n)) (Ok n)
