@@ -5,12 +5,12 @@
  *     /tmp/convert < record > converted
  *
  * A refusal is said on standard error, 15 where an id of eight bytes does not fit four; the status is then 1, and 2 if reading or writing
- * failed. */
+ * failed or the input has 2^20 bytes or more, which is more than a record that check accepts has, and is not looked at. */
 #include <stdio.h>
 
 #include "lvn.h"
 
-#define MOST (1 << 20) /* check refuses what is longer, in either version */
+#define MOST (1 << 20) /* check refuses what is as long, in either version */
 
 static uint8_t input[MOST], output[MOST];
 
@@ -18,7 +18,7 @@ int main(void)
 {
     size_t length = fread(input, 1, sizeof input, stdin);
     if (ferror(stdin) || length == sizeof input) {
-        fprintf(stderr, "convert: standard input: cannot be read, or is no record\n");
+        fprintf(stderr, "convert: standard input: cannot be read, or is too long\n");
         return 2;
     }
 

@@ -269,7 +269,8 @@ def run_into(record: Bytes, store: Bytes, answers: Bytes, limit: int, events: An
     """Runs a record from a starting store with a list of answers, both in the house form, for at most limit steps.
 
     The events go to the start of one buffer, such as a bytearray, with ids as wide as the record's, and the final store to that of
-    another; the bytes beyond stay as they were. Raises Refused, Unfit, or Short if a buffer is too short; then both stay as they were. Buffers that overlap are a ValueError.
+    another; the bytes beyond stay as they were. Raises Refused, Unfit, or Short if a buffer is too short; then both stay as they were.
+    Buffers that overlap are a ValueError.
     """
     record, store, answers, answer = _bytes(record), _bytes(store), _bytes(answers), _Ran()
     limit = operator.index(limit)

@@ -74,6 +74,27 @@ fn numbers(r: &mut Reader, count: usize) -> Option<Vec<String>> {
     (0..count).map(|_| r.number(2).map(|n| n.to_string())).collect()
 }
 
+/// Type and text of each name.
+fn names(r: &mut Reader) -> Option<Vec<(u8, String)>> {
+    let mut names = vec![];
+    for _ in 0..r.count(2)? {
+        let type_byte = r.byte()?;
+        let length = r.count(1)?;
+        let text = std::str::from_utf8(r.take(length)?).ok()?;
+        names.push((type_byte, text.to_string()));
+    }
+    Some(names)
+}
+
+/// How many blocks an effect names.
+fn targets(op: &EffectOps) -> usize {
+    match op {
+        EffectOps::Jump => 1,
+        EffectOps::Branch => 2,
+        _ => 0,
+    }
+}
+
 fn instruction(
     r: &mut Reader,
     width: usize,
@@ -106,14 +127,7 @@ fn instruction(
         return Some((id, Instruction::Value { args, dest, funcs, labels, op, pos: None, op_type }));
     }
     let op = ops::op(&EFFECTS, code)?;
-    let labels = numbers(
-        r,
-        match op {
-            EffectOps::Jump => 1,
-            EffectOps::Branch => 2,
-            _ => 0,
-        },
-    )?;
+    let labels = numbers(r, targets(&op))?;
     Some((id, Instruction::Effect { args, funcs, labels, op, pos: None }))
 }
 
@@ -125,13 +139,7 @@ pub fn read(src: &[u8]) -> Option<Record> {
     let version = r.byte()?;
     let width = id_bytes(version)?;
     let arg_count = r.count(1)?;
-    let mut names = vec![];
-    for _ in 0..r.count(2)? {
-        let type_byte = r.byte()?;
-        let length = r.count(1)?;
-        let text = std::str::from_utf8(r.take(length)?).ok()?;
-        names.push((type_byte, text.to_string()));
-    }
+    let names = names(&mut r)?;
     let mut blocks = vec![];
     for _ in 0..r.count(2)? {
         let n = r.count(2)?;
