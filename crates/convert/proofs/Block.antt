@@ -34,7 +34,9 @@ block_parts w b =
     ∙ sym (append_assoc (be 2 (length b.body)) (be 2 b.saves) rows)
 
 pub block_long : (w : ℕ) (b : Block Instr) → length (block_bytes w b) ≡ 4 + length (row_bytes instr_bytes w b.body)
-block_long w b = ap length (block_parts w b) ∙ length-append (head b) (row_bytes instr_bytes w b.body) ∙ ap (λ (k : ℕ). k + length (row_bytes instr_bytes w b.body)) (head_long b)
+block_long w b =
+    let rows = row_bytes instr_bytes w b.body in
+    ap length (block_parts w b) ∙ length-append (head b) rows ∙ ap (λ (k : ℕ). k + length rows) (head_long b)
 
 module _
     (from to : ℕ) (s : List ℕ) (at : Spot)

@@ -40,7 +40,8 @@ record_parts r =
     let nil = append-nil (rows r) in
     let e : a ++ (n ++ (xs ++ (b ++ (rows r ++ [])))) ≡ middle r ++ rows r =
     ap (λ (t : List ℕ). a ++ (n ++ (xs ++ (b ++ t)))) nil
-    ∙ sym (append_assoc a (n ++ (xs ++ b)) (rows r) ∙ ap (λ (t : List ℕ). a ++ t) (append_assoc n (xs ++ b) (rows r) ∙ ap (λ (t : List ℕ). n ++ t) (append_assoc xs b (rows r)))) in
+    ∙ sym (append_assoc a (n ++ (xs ++ b)) (rows r)
+    ∙ ap (λ (t : List ℕ). a ++ t) (append_assoc n (xs ++ b) (rows r) ∙ ap (λ (t : List ℕ). n ++ t) (append_assoc xs b (rows r)))) in
     ap (λ (t : List ℕ). be 4 (length (content_bytes r)) ++ (be 1 r.version ++ t)) e
 
 pub record_long : (r : Record Instr) → length (bytes r) ≡ 5 + length (middle r) + length (rows r)
