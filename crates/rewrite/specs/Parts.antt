@@ -2,7 +2,7 @@
 use Rattle.std.specs.Prelude.{ℕ, ◌*◌, ◌≤◌, List, [], ◌∷◌, map, ◌≡◌, length, take}
 use Rattle.record.specs.Record.{Instr, Record, id_bytes}
 use Rattle.record.specs.Reader.{got, num_at}
-use Rattle.record.specs.Write.{be, join, name_bytes, block_bytes}
+use Rattle.record.specs.Write.{be, join, row_bytes, name_bytes, block_bytes}
 use Rattle.record.specs.Sizes.{most_body}
 use Rattle.record.specs.Decode.{names_count, record_from}
 use Rattle.record.specs.Again.{record_in, types_in, Reads}
