@@ -1,6 +1,6 @@
-// The library for other languages: check, rewrite, figures, name text, running, widening and narrowing, called as C functions. Each returns 0, or the number of
-// its refusal, and leaves the values that go with it in a lent place; include/lvn.h says the same for C. A slice is a pointer and a length
-// there. C has no Result, so the number and the values stand apart.
+// The library for other languages: check, rewrite, figures, name text, running, widening and narrowing, called as C functions. Each returns 0,
+// or the number of its refusal, and leaves the values that go with it in a lent place; include/lvn.h says the same for C. A slice is a pointer
+// and a length there. C has no Result, so the number and the values stand apart.
 #![tactic(auto)]
 
 ghost use Rattle.std.specs.Prelude.{◌≡◌};

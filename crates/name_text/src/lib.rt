@@ -47,8 +47,7 @@ pub fn text_in(s: &[u8], rewriting: bool, index: usize) -> Place
     requires { index < 65536 }
     ensures { found (Ok result) ≡ part_from rewriting s.now index }
 {
-    // The place alone is asked, so that no table is filled.
-    let p = read_layout::fill_names(s, &mut [], &mut [], index, 8);
+    let p = read_layout::names_end(s, index, 8);
     Place {
         rewriting,
         from: p + 1 + 1,

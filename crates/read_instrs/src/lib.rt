@@ -82,9 +82,8 @@ struct Parts {
     targets: u64,
 }
 
-// The parts behind a code. Two functions go the same way, and cannot do it by this one: read_layout::operands_end, for any bytes at all, has to ask
-// for the room of 255 arguments and as many block numbers, where this one asks for that of eight; check_blocks::check_operands has to refuse a part
-// before it looks for the next.
+// The parts behind a code. check_blocks::check_operands goes the same way, and cannot do it by this one: it has to refuse a part before it looks
+// for the next.
 fn parts_at(s: &[u8], at: usize, code: u8) -> Parts
     requires { (at + longest_operands < places) × (count_from (shape_of code) s.now (count_at (shape_of code) s.now at) ≤ 8) }
     ensures { PartsAt s.now at code result }

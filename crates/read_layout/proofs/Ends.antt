@@ -36,15 +36,10 @@ operands_past sh s at l c n a t m r el ec en ea et em er =
     let m' : m ≡ targets sh (count_from sh s (count_at sh s at)) = em ∙ ap (targets sh) (en ∙ ap (count_from sh s) c') in
     er ∙ (λ i. t' i + 2 * m' i) ∙ sym (behind_two (targets_at sh s at) (targets sh (count_from sh s (count_at sh s at))))
 
--- c: the code of the instruction, sh: its shape
-pub instr_past :
-    (w : ℕ) (s : List ℕ) (at c r : ℕ) (sh : Shape) →
-    c ≡ num_at s (at + w) 1 →
-    sh ≡ shape_of c →
-    r ≡ operands_end sh s (at + w + 1) →
-    r ≡ instr_end w s at
+-- c: the code of the instruction
+pub instr_past : (w : ℕ) (s : List ℕ) (at c r : ℕ) → c ≡ num_at s (at + w) 1 → r ≡ operands_end (shape_of c) s (at + w + 1) → r ≡ instr_end w s at
 unfolding instr_end
-instr_past w s at c r sh ec es er = er ∙ ap (λ (z : Shape). operands_end z s (at + w + 1)) (es ∙ ap shape_of ec)
+instr_past w s at c r ec er = er ∙ ap (λ (z : ℕ). operands_end (shape_of z) s (at + w + 1)) ec
 
 pub name_past : (s : List ℕ) (at n : ℕ) → n ≡ get_or s (at + 1) 0 → at + 1 + 1 + n ≡ name_end s at
 unfolding name_end

@@ -5,14 +5,13 @@
 ghost use Rattle.std.specs.Prelude.{◌≡◌, ◌+◌, ◌*◌, ◌<◌, ◌≤◌, length, set};
 ghost use Rattle.std.proofs.lemmas.List.Edits.{sets};
 ghost use Rattle.record.specs.Record.{id_bytes};
+ghost use Rattle.record.specs.Shape.{shape_of};
 ghost use Rattle.record.specs.Reader.{num_at};
 ghost use Rattle.record.specs.Decode.{behind, name_from, operands_end, instr_end, block_end, name_end, names_count, names_end, id_width};
 ghost use Rattle.record.specs.Sizes.{places_end};
 ghost use Rattle.read_fields.specs.Places.{places};
 ghost use Rattle.read_layout.specs.Bounds.{widest_id, operands_reach, instr_reach, block_reach, name_reach};
 ghost use Rattle.read_layout.specs.Layout.{types_from, places_from, blocks_from, layout_of, Bounded};
-
-use record::Shape;
 
 // What the head of a record says: the bytes of an id, how many arguments, names and blocks there are, and where the names end.
 #[derive(Clone, Copy, PartialEq, Eq, Debug)]
@@ -48,21 +47,62 @@ pub fn id_width(s: &[u8]) -> usize
 }
 
 // ---- the end of an instruction
+// By three numbers for each code up to 71; each code past it is unknown, and is followed as 71 is. From a code's shape they would come by jumps, of
+// which a processor foresees few where codes are mixed, and each walk over instructions has to wait for them.
+
+// How far behind a code the count of its arguments stands.
+const COUNT_AT: [u8; 72] = [
+    // const; add to ptradd
+    2, 2, 2, 2, 2, 2, 2, 2, 2, 2, 2, 2, 2, 2, 2,
+    // none
+    0, 0, 0, 0, 0,
+    // call; fadd to load; phi
+    2, 2, 2, 2, 2, 2, 2, 2, 2, 2, 2, 2, 2, 2, 2, 2, 2, 2, 2, 2,
+    // none
+    0, 0, 0, 0, 0, 0, 0, 0, 0, 0, 0, 0, 0, 0, 0, 0, 0, 0, 0, 0, 0, 0, 0, 0,
+    // jmp, br, ret, call, print, nop, store, free
+    0, 0, 0, 0, 0, 0, 0, 0,
+];
+
+// The bytes behind a code that are not for an argument.
+const FIXED: [u8; 72] = [
+    // const; add to ptradd
+    11, 3, 3, 3, 3, 3, 3, 3, 3, 3, 3, 3, 3, 3, 3,
+    // none
+    1, 1, 1, 1, 1,
+    // call; fadd to load; phi
+    5, 3, 3, 3, 3, 3, 3, 3, 3, 3, 3, 3, 3, 3, 3, 3, 3, 3, 3, 3,
+    // none
+    1, 1, 1, 1, 1, 1, 1, 1, 1, 1, 1, 1, 1, 1, 1, 1, 1, 1, 1, 1, 1, 1, 1, 1,
+    // jmp, br, ret, call, print, nop, store, free
+    3, 5, 1, 3, 1, 1, 1, 1,
+];
+
+// The bytes for each argument: its own, and those of its block number in a phi. A const has no count, and what is read for one counts for nothing.
+const PER_ARG: [u8; 72] = [
+    // const; add to ptradd
+    0, 2, 2, 2, 2, 2, 2, 2, 2, 2, 2, 2, 2, 2, 2,
+    // none
+    2, 2, 2, 2, 2,
+    // call; fadd to load; phi
+    2, 2, 2, 2, 2, 2, 2, 2, 2, 2, 2, 2, 2, 2, 2, 2, 2, 2, 2, 4,
+    // none
+    2, 2, 2, 2, 2, 2, 2, 2, 2, 2, 2, 2, 2, 2, 2, 2, 2, 2, 2, 2, 2, 2, 2, 2,
+    // jmp, br, ret, call, print, nop, store, free
+    2, 2, 2, 2, 2, 2, 2, 2,
+];
+
 // s, w and at stand by themselves here, and w ≤ widest_id with them: who calls has them in a struct of its own (check_types' Typed, engine_quiet's
 // Ground), and would build another for each call.
 
-// The place behind operands of this shape.
-fn operands_end(sh: Shape, s: &[u8], at: usize) -> usize
+// The place behind the operands of this code.
+fn operands_end(code: u64, s: &[u8], at: usize) -> usize
     requires { at + operands_reach < places }
-    ensures { (result ≡ operands_end sh s.now at) × (result ≤ at + operands_reach) }
+    ensures { (result ≡ operands_end (shape_of code) s.now at) × (result ≤ at + operands_reach) }
 {
-    let literal = read_fields::past_if(sh.dest, at, 2);
-    let count = read_fields::past_if(sh.literal, literal, 9);
-    let n = read_shapes::count_from(sh, s, count);
-    // as: a number that is known to fit, or u64 and usize, which have no From; try_from would hand out an error that cannot be.
-    let callee = read_fields::past_if(!sh.literal, count, 1 + 2 * (n as usize));
-    let blocks = read_fields::past_if(sh.callee, callee, 2);
-    blocks + 2 * (read_shapes::targets(sh, n) as usize)
+    let i = code.min(71) as usize;
+    let n = read_fields::byte_or(s, at + usize::from(COUNT_AT[i])) as usize;
+    at + usize::from(FIXED[i]) + usize::from(PER_ARG[i]) * n
 }
 
 // The place behind the instruction at a place; w: the bytes of an id.
@@ -70,8 +110,7 @@ pub fn instr_end(s: &[u8], w: usize, at: usize) -> usize
     requires { (w ≤ widest_id) × (at + instr_reach < places) }
     ensures { (result ≡ instr_end w s.now at) × (result ≤ at + instr_reach) }
 {
-    let sh = read_shapes::shape_of(read_fields::byte_or(s, at + w));
-    operands_end(sh, s, at + w + 1)
+    operands_end(read_fields::byte_or(s, at + w), s, at + w + 1)
 }
 
 // ---- blocks
@@ -147,9 +186,21 @@ pub fn name_end(s: &[u8], at: usize) -> usize
     at + 1 + 1 + usize::from(read_fields::u8_at(s, at + 1))
 }
 
+// The place behind the n names from a place on.
+pub fn names_end(s: &[u8], n: usize, at: usize) -> usize
+    requires { at + name_reach * n < places }
+    ensures { (result ≡ behind (name_end s.now) at n) × (result ≤ at + name_reach * n) }
+{
+    let mut p = at;
+    for _ in 0..n {
+        p = name_end(s, p);
+    }
+    p
+}
+
 // The types and the places of the n names from a place on, put into two tables from their start; the place behind the names. A table
 // that is too short keeps what it has. Two tables, since who numbers reads the types alone and who copies names the places alone, each as the
-// list that the definitions speak of; and who wants one of them lends an empty table for the other.
+// list that the definitions speak of; and who wants one of them lends an empty table for the other, where who wants neither asks names_end.
 pub fn fill_names(s: &[u8], types: &mut [u8], places: &mut [u32], n: usize, at: usize) -> usize
     requires { at + name_reach * n < places_end }
     ensures { (result ≡ behind (name_end s.now) at n) × (result ≤ at + name_reach * n)
@@ -197,4 +248,11 @@ pub fn layout_of(s: &[u8], types: &mut [u8], places: &mut [u32]) -> Layout
 {
     let end = fill_names(s, types, places, usize::from(names_count(s)), 8);
     layout_at(s, end)
+}
+
+// What the head says, where no table of the names is asked.
+pub fn head_of(s: &[u8]) -> Layout
+    ensures { result ≡ layout_of s.now }
+{
+    layout_at(s, names_end(s, usize::from(names_count(s)), 8))
 }
