@@ -3,7 +3,8 @@ use Prim.Native.Nat.{ℕ, ◌+◌, ◌-◌, ◌*◌, ◌^◌, ◌<◌, ◌≤◌
 use mathlib.Core.Path.{◌≡◌, sym, ap, ◌∙◌, subst}
 use mathlib.Core.List.{List}
 use native.Mathlib.Omega.{arith}
-use lib.ListN.{length, length-map}
+use mathlib.Core.Logic.{inl, inr}
+use lib.ListN.{length, length-map, get_or}
 use Rattle.std.specs.Prelude.{Ok, Err, Option, None}
 use Rattle.record.specs.declared.ConvertError.{ConvertError}
 use Rattle.record.specs.declared.ConvertError.TheVariants.{Refused, Wide, Room}
@@ -11,6 +12,7 @@ use Rattle.record.specs.declared.Fault.{Fault}
 use Rattle.record.specs.Record.{Instr, Placed, Record, limits, id_bytes}
 use Rattle.record.specs.Reader.{got, num_at}
 use Rattle.record.specs.Read.{read}
+use Rattle.record.specs.Tests.{version_test}
 use Rattle.record.specs.Answer.{checked}
 use Rattle.record.specs.Typing.{accept}
 use Rattle.record.specs.Write.{bytes}
@@ -26,12 +28,13 @@ use Rattle.record.proofs.Ids.{Fit, none_fit, ids, ids_of, ranged_in, good_in}
 use Rattle.record.proofs.Inside.{names_inside}
 use Rattle.record.proofs.Judged.{accepted_as}
 use Rattle.record.proofs.Longest.{record_most}
+use Rattle.record.proofs.Octets.{octets}
 use Rattle.record.proofs.Ranged.{read_ranged}
 use Rattle.record.proofs.ReadFrom.{accept_from}
 use Rattle.record.proofs.Resized.{version_size}
 use Rattle.record.proofs.Typed.{accept_typed}
 use Rattle.record.proofs.Versions.{refused_exactly, wide_refused, untouched, converts}
-use Rattle.write_bytes.specs.Put.{put}
+use Rattle.write_bytes.specs.Put.{put, IdWidth}
 use Rattle.write_bytes.proofs.Put.{put_first}
 use Rattle.read_layout.specs.declared.Layout.{Layout}
 use Rattle.read_layout.specs.Layout.{layout_of}
@@ -46,6 +49,17 @@ refused_answer version s out f h =
     let d : convert version s out ≡ Err (Refused f) = (refused_exactly version s out f).1 h in
     (sym d, sym (untouched version s out (Refused f) d))
 
+-- ---- what the entry knows
+pub input_checked :
+    (version : ℕ) (s : List ℕ) → ((i : ℕ) → get_or s i 0 < 256) → version_test version ≡ Ok tt → checked s ≡ Ok tt → Checked version s
+input_checked version s h k a = record { bytes = octets s h; accepted = a; known = k }
+
+-- an id has four bytes where it has not eight
+pub other_width : (w : ℕ) → IdWidth w → (w ≡ 8 → ⊥) → 4 ≡ w
+other_width w (inl e) h = sym e
+other_width w (inr e) h = absurd (h e)
+
+-- ---- what is found
 module _ (version : ℕ) (s : List ℕ) (a : Checked version s) where
   abbrev placed : Record Placed
   placed = record_from s

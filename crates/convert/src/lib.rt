@@ -27,47 +27,46 @@ const NARROW: u8 = 1;
 
 const WIDE: u8 = 2;
 
-// A record and the version that is wanted, and how many bytes an id has in each.
+// A record whose ids have FROM bytes, and the version that is wanted, in which they have TO. The widths are parameters of the type, so that each
+// pair is compiled for itself: as fields, which each loop looks at again, narrowing took up to a quarter longer beyond check.
 #[derive(Clone, Copy, PartialEq, Eq, Debug)]
-struct Source<'a> {
+struct Source<'a, const FROM: usize, const TO: usize> {
     reads: &'a [u8],
     version: u8,
-    from: usize,
-    to: usize,
-    ghost widths: { (from ≡ id_width reads.now) × (to ≡ id_bytes version) },
+    ghost widths: { (FROM ≡ id_width reads.now) × (TO ≡ id_bytes version) },
 }
 
-impl Source<'_> {
+impl<const FROM: usize, const TO: usize> Source<'_, FROM, TO> {
     // ---- the ids, before anything is written
     // Whether the id of the instruction at a place has room.
     fn fits(self, at: usize) -> bool
         requires { at + 7 < places }
-        ensures { result ≡ ltb (num_at self.entry.reads.now at self.entry.from) (256 ^ self.entry.to) }
+        ensures { result ≡ ltb (num_at self.entry.reads.now at FROM) (256 ^ TO) }
     {
-        write_bytes::word_fits(self.to, read_instrs::read_id(self.reads, at, self.from))
+        write_bytes::word_fits(TO, read_instrs::read_id(self.reads, at, FROM))
     }
 
     // Of n instructions from a place on, the place of the first whose id has no room; else the place behind them.
     fn scan_body(self, at: usize, n: usize) -> Result<usize, ConvertError>
-        requires { behind (instr_end self.from self.reads.now) at n < places_end }
-        ensures { result ≡ scanned (first_wide self.entry.to (body_placed self.entry.from self.entry.reads.now at n))
-            (behind (instr_end self.entry.from self.entry.reads.now) at n) }
+        requires { behind (instr_end FROM self.reads.now) at n < places_end }
+        ensures { result ≡ scanned (first_wide TO (body_placed FROM self.entry.reads.now at n))
+            (behind (instr_end FROM self.entry.reads.now) at n) }
     {
         let mut p = at;
         for _ in 0..n {
             if !self.fits(p) {
                 return Err(ConvertError::Wide(p));
             }
-            p = read_layout::instr_end(self.reads, self.from, p);
+            p = read_layout::instr_end(self.reads, FROM, p);
         }
         Ok(p)
     }
 
     // Of n blocks from a place on, the place of the first instruction whose id has no room; else how many instructions they have.
     fn scan_blocks(self, at: usize, n: usize) -> Result<usize, ConvertError>
-        requires { (behind (block_end self.from self.reads.now) at n < places_end) × (n < 65536) }
-        ensures { result ≡ scanned (first_wide self.entry.to (blocks_placed self.entry.from self.entry.reads.now at n))
-            (length (blocks_placed self.entry.from self.entry.reads.now at n)) }
+        requires { (behind (block_end FROM self.reads.now) at n < places_end) × (n < 65536) }
+        ensures { result ≡ scanned (first_wide TO (blocks_placed FROM self.entry.reads.now at n))
+            (length (blocks_placed FROM self.entry.reads.now at n)) }
     {
         let mut p = at;
         let mut count = 0;
@@ -86,31 +85,31 @@ impl Source<'_> {
             (length (converted_bytes self.entry.version (record_from self.entry.reads.now))) }
     {
         let n = self.scan_blocks(layout.end + 2, layout.blocks)?;
-        Ok(self.reads.len() - n * self.from + n * self.to)
+        Ok(self.reads.len() - n * FROM + n * TO)
     }
 
     // ---- what is written
     // The instruction at a place; the places behind it.
     fn put_instr(self, out: &mut [u8], at: Spot) -> Spot
-        requires { Stands instr_bytes (RangedInstr self.to) self.from self.to self.reads.now at (instr_from self.from self.reads.now at.p)
-            (instr_end self.from self.reads.now at.p) }
-        ensures { Done instr_bytes self.entry.to out.old out.new at result (instr_from self.entry.from self.entry.reads.now at.p)
-            (instr_end self.entry.from self.entry.reads.now at.p) }
+        requires { Stands instr_bytes (RangedInstr TO) FROM TO self.reads.now at (instr_from FROM self.reads.now at.p)
+            (instr_end FROM self.reads.now at.p) }
+        ensures { Done instr_bytes TO out.old out.new at result (instr_from FROM self.entry.reads.now at.p)
+            (instr_end FROM self.entry.reads.now at.p) }
     {
-        let id = read_instrs::read_id(self.reads, at.p, self.from);
-        let end = read_layout::instr_end(self.reads, self.from, at.p);
-        let behind = at.p + self.from;
-        write_bytes::put_word(out, at.q, self.to, id);
-        let q = write_bytes::copy_bytes(self.reads, behind, end - behind, out, at.q + self.to);
+        let id = read_instrs::read_id(self.reads, at.p, FROM);
+        let end = read_layout::instr_end(self.reads, FROM, at.p);
+        let behind = at.p + FROM;
+        write_bytes::put_word(out, at.q, TO, id);
+        let q = write_bytes::copy_bytes(self.reads, behind, end - behind, out, at.q + TO);
         Spot { p: end, q }
     }
 
     // n instructions from a place on; the places behind them.
     fn put_body(self, out: &mut [u8], at: Spot, n: usize) -> Spot
-        requires { Stands (row_bytes instr_bytes) (Each (λ left i. RangedInstr self.to i)) self.from self.to self.reads.now at
-            (instrs_from self.from self.reads.now at.p n) (instrs_end self.from self.reads.now at.p n) }
-        ensures { Done (row_bytes instr_bytes) self.entry.to out.old out.new at result (instrs_from self.entry.from self.entry.reads.now at.p n)
-            (instrs_end self.entry.from self.entry.reads.now at.p n) }
+        requires { Stands (row_bytes instr_bytes) (Each (λ left i. RangedInstr TO i)) FROM TO self.reads.now at
+            (instrs_from FROM self.reads.now at.p n) (instrs_end FROM self.reads.now at.p n) }
+        ensures { Done (row_bytes instr_bytes) TO out.old out.new at result (instrs_from FROM self.entry.reads.now at.p n)
+            (instrs_end FROM self.entry.reads.now at.p n) }
     {
         let mut to = at;
         for _ in 0..n {
@@ -119,24 +118,30 @@ impl Source<'_> {
         to
     }
 
-    // The block at a place: its head as it stands, and its instructions; the places behind it.
+    // The block at a place: its count and its saves as they stand, and its instructions; the places behind it.
     fn put_block(self, out: &mut [u8], at: Spot) -> Spot
-        requires { Stands block_bytes (RangedBlock self.to) self.from self.to self.reads.now at (block_in self.from self.reads.now at.p)
-            (block_end self.from self.reads.now at.p) }
-        ensures { Done block_bytes self.entry.to out.old out.new at result (block_in self.entry.from self.entry.reads.now at.p)
-            (block_end self.entry.from self.entry.reads.now at.p) }
+        requires { Stands block_bytes (RangedBlock TO) FROM TO self.reads.now at (block_in FROM self.reads.now at.p)
+            (block_end FROM self.reads.now at.p) }
+        ensures { Done block_bytes TO out.old out.new at result (block_in FROM self.entry.reads.now at.p)
+            (block_end FROM self.entry.reads.now at.p) }
     {
-        let (n, p) = read_layout::block_head(self.reads, at.p);
-        let q = write_bytes::copy_bytes(self.reads, at.p, 4, out, at.q);
-        self.put_body(out, Spot { p, q }, n)
+        let count = read_fields::u16_at(self.reads, at.p);
+        let saves = read_fields::u16_at(self.reads, at.p + 2);
+        let first = Spot {
+            p: at.p + 4,
+            q: at.q + 4,
+        };
+        write_bytes::put_u16(out, at.q, count);
+        write_bytes::put_u16(out, at.q + 2, saves);
+        self.put_body(out, first, usize::from(count))
     }
 
     // n blocks from a place on; the places behind them.
     fn put_blocks(self, out: &mut [u8], at: Spot, n: usize) -> Spot
-        requires { Stands (row_bytes block_bytes) (Each (λ left b. RangedBlock self.to b)) self.from self.to self.reads.now at
-            (blocks_in self.from self.reads.now at.p n) (blocks_behind self.from self.reads.now at.p n) }
-        ensures { Done (row_bytes block_bytes) self.entry.to out.old out.new at result (blocks_in self.entry.from self.entry.reads.now at.p n)
-            (blocks_behind self.entry.from self.entry.reads.now at.p n) }
+        requires { Stands (row_bytes block_bytes) (Each (λ left b. RangedBlock TO b)) FROM TO self.reads.now at
+            (blocks_in FROM self.reads.now at.p n) (blocks_behind FROM self.reads.now at.p n) }
+        ensures { Done (row_bytes block_bytes) TO out.old out.new at result (blocks_in FROM self.entry.reads.now at.p n)
+            (blocks_behind FROM self.entry.reads.now at.p n) }
     {
         let mut to = at;
         for _ in 0..n {
@@ -174,34 +179,43 @@ impl Source<'_> {
     }
 }
 
-// The record in a version: how many bytes are written; or check's refusal, or why an accepted record is not written.
-fn convert(input: &[u8], output: &mut [u8], version: u8) -> Result<usize, ConvertError>
-    requires { version_test version ≡ Ok tt }
+// The record in a version, whose ids have TO bytes: how many bytes are written; or check's refusal, or why an accepted record is not written.
+fn convert<const TO: usize>(
+    input: &[u8],
+    output: &mut [u8],
+    version: u8,
+) -> Result<usize, ConvertError>
+    requires { (version_test version ≡ Ok tt) × (TO ≡ id_bytes version) }
     ensures { (result ≡ convert version input.now output.old) × (output.new ≡ convert_leaves version input.now output.old) }
 {
     checker::check(input)?;
-    let layout = read_layout::layout_of(input, &mut [], &mut []);
-    let source = Source {
+    let layout = read_layout::head_of(input);
+    if layout.width == 8 {
+        return Source::<8, TO> {
+            reads: input,
+            version,
+        }
+        .put(output, layout);
+    }
+    Source::<4, TO> {
         reads: input,
         version,
-        from: layout.width,
-        to: read_layout::id_bytes(u64::from(version)),
-    };
-    source.put(output, layout)
+    }
+    .put(output, layout)
 }
 
 // The record with ids of eight bytes, which have room for each id.
-#[tactic(auto, unfolding(record::specs::Tests::version_test))]
+#[tactic(auto, unfolding(record::specs::Tests::version_test, record::specs::Record::id_bytes))]
 pub fn widen(input: &[u8], output: &mut [u8]) -> Result<usize, ConvertError>
     ensures { (result ≡ widen input.now output.old) × (output.new ≡ widen_leaves input.now output.old) }
 {
-    convert(input, output, WIDE)
+    convert::<8>(input, output, WIDE)
 }
 
 // The record with ids of four bytes, where each id is below 2^32.
-#[tactic(auto, unfolding(record::specs::Tests::version_test))]
+#[tactic(auto, unfolding(record::specs::Tests::version_test, record::specs::Record::id_bytes))]
 pub fn narrow(input: &[u8], output: &mut [u8]) -> Result<usize, ConvertError>
     ensures { (result ≡ narrow input.now output.old) × (output.new ≡ narrow_leaves input.now output.old) }
 {
-    convert(input, output, NARROW)
+    convert::<4>(input, output, NARROW)
 }

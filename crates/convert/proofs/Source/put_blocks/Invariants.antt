@@ -4,7 +4,7 @@ use Rattle.convert.proofs.Rows.{blocks, Row, Going}
 use Rattle.convert.proofs.Source.put_blocks.Given as goal
 
 abbrev pub invariant-loop : goal.invariant-loop
-invariant-loop l =
-    let kind = blocks l.self.from l.self.reads.now in
+invariant-loop g l =
+    let kind = blocks g.row.FROM l.self.reads.now in
     let left = l.n - l.counter in
-    Row kind l.self.to l.to left × Going kind l.self.to l.initial.to l.n l.initial.out l.to left l.out
+    Row kind g.row.TO l.to left × Going kind g.row.TO l.initial.to l.n l.initial.out l.to left l.out

@@ -8,42 +8,42 @@ use Rattle.convert.proofs.Instr.{id_fits, id_ends, instr_put}
 use Rattle.convert.proofs.Source.put_instr.Goals as goal
 
 pub read_id-id-requires : goal.read_id-id-requires
-read_id-id-requires c = let a = c.args in
-    let e = id_ends a.self.from a.self.to a.self.reads.now a.at c.requires in
+read_id-id-requires g c = let a = c.args in
+    let e = id_ends g.row.FROM g.row.TO a.self.reads.now a.at c.requires in
     (omega (arith, e.1), subst IdWidth (sym a.self.widths.0) (id_width (num_at a.self.reads.now 4 1)))
 
 pub instr_end-end-requires : goal.instr_end-end-requires
-instr_end-end-requires c = let a = c.args in
-    let e = id_ends a.self.from a.self.to a.self.reads.now a.at c.requires in
+instr_end-end-requires g c = let a = c.args in
+    let e = id_ends g.row.FROM g.row.TO a.self.reads.now a.at c.requires in
     (width_most (subst IdWidth (sym a.self.widths.0) (id_width (num_at a.self.reads.now 4 1))), omega (arith, e.1))
 
 pub overflow_add-behind : goal.overflow_add-behind
-overflow_add-behind c = let a = c.args in
-    let e = id_ends a.self.from a.self.to a.self.reads.now a.at c.requires in
+overflow_add-behind g c = let a = c.args in
+    let e = id_ends g.row.FROM g.row.TO a.self.reads.now a.at c.requires in
     omega (arith, e.1)
 
 pub put_word-requires : goal.put_word-requires
-put_word-requires c = let a = c.args in (
+put_word-requires g c = let a = c.args in (
   subst IdWidth (sym a.self.widths.1) (id_width a.self.version),
-  id_fits a.self.from a.self.to a.self.reads.now a.at c.requires _ c.read_id-id.ensures.0,
+  id_fits g.row.FROM g.row.TO a.self.reads.now a.at c.requires _ c.read_id-id.ensures.0,
 )
 
 pub overflow_sub-end : goal.overflow_sub-end
-overflow_sub-end c = let a = c.args in
-    let e = id_ends a.self.from a.self.to a.self.reads.now a.at c.requires in
+overflow_sub-end g c = let a = c.args in
+    let e = id_ends g.row.FROM g.row.TO a.self.reads.now a.at c.requires in
     omega (arith, e.0, c.instr_end-end.ensures.0)
 
 pub overflow_add-at : goal.overflow_add-at
-overflow_add-at c = let a = c.args in
-    let e = id_ends a.self.from a.self.to a.self.reads.now a.at c.requires in
+overflow_add-at g c = let a = c.args in
+    let e = id_ends g.row.FROM g.row.TO a.self.reads.now a.at c.requires in
     omega (arith, e.2)
 
 pub copy_bytes-q-requires : goal.copy_bytes-q-requires
-copy_bytes-q-requires c = let a = c.args in
-    let e = id_ends a.self.from a.self.to a.self.reads.now a.at c.requires in
+copy_bytes-q-requires g c = let a = c.args in
+    let e = id_ends g.row.FROM g.row.TO a.self.reads.now a.at c.requires in
     omega (arith, e.2, c.requires.reads, c.instr_end-end.ensures.0)
 
 pub returns : goal.returns
-returns c = let a = c.args in
-    instr_put a.self.from a.self.to a.self.reads.now a.at c.requires _ _ c.read_id-id.ensures.0 c.instr_end-end.ensures.0 c.put_word.ensures
+returns g c = let a = c.args in
+    instr_put g.row.FROM g.row.TO a.self.reads.now a.at c.requires _ _ c.read_id-id.ensures.0 c.instr_end-end.ensures.0 c.put_word.ensures
     c.copy_bytes-q.ensures.0

@@ -12,41 +12,41 @@ use Rattle.convert.proofs.Scan.{in_body, body_wide, body_on, body_done}
 use Rattle.convert.proofs.Source.scan_body.Goals as goal
 
 pub loop-init : goal.loop-init
-loop-init c = let a = c.args in
+loop-init g c = let a = c.args in
     let s = a.self.reads.now in
     let z : a.n - 0 ≡ a.n = omega arith in
-    (ap (behind (instr_end a.self.from s) a.at) z, ap (in_body a.self.from a.self.to s a.at) z)
+    (ap (behind (instr_end g.row.FROM s) a.at) z, ap (in_body g.row.FROM g.row.TO s a.at) z)
 
 pub fits-requires : goal.fits-requires
-fits-requires c = let a = c.args in
+fits-requires g c = let a = c.args in
     let s = a.self.reads.now in
-    omega (arith, behind_within (instr_end a.self.from s) (instr_grows a.self.from s) c.loop.p _ _ c.loop.invariant.0, c.requires)
+    omega (arith, behind_within (instr_end g.row.FROM s) (instr_grows g.row.FROM s) c.loop.p _ _ c.loop.invariant.0, c.requires)
 
 pub returns-then-not-fits : goal.returns-then-not-fits
-returns-then-not-fits c = let a = c.args in
+returns-then-not-fits g c = let a = c.args in
     let s = a.self.reads.now in
     let more : c.loop.counter < a.n = c.loop-test.true in
-    body_wide a.self.from a.self.to s c.loop.p (a.n - c.loop.counter) (omega (arith, more)) (sym c.fits.ensures ∙ c.if-not-fits.true)
+    body_wide g.row.FROM g.row.TO s c.loop.p (a.n - c.loop.counter) (omega (arith, more)) (sym c.fits.ensures ∙ c.if-not-fits.true)
     ∙ c.loop.invariant.1
 
 pub instr_end-p-requires : goal.instr_end-p-requires
-instr_end-p-requires c = let a = c.args in
+instr_end-p-requires g c = let a = c.args in
     let s = a.self.reads.now in (
       width_most (subst IdWidth (sym a.self.widths.0) (id_width (num_at s 4 1))),
-      omega (arith, behind_within (instr_end a.self.from s) (instr_grows a.self.from s) c.loop.p _ _ c.loop.invariant.0, c.requires),
+      omega (arith, behind_within (instr_end g.row.FROM s) (instr_grows g.row.FROM s) c.loop.p _ _ c.loop.invariant.0, c.requires),
     )
 
 pub loop-preserved : goal.loop-preserved
-loop-preserved c = let a = c.args in
+loop-preserved g c = let a = c.args in
     let s = a.self.reads.now in
     let next = c.instr_end-p.ensures.0 in
     let more : c.loop.counter < a.n = c.loop-test.true in (
       behind_next _ _ _ _ c.loop-test.true _ next ∙ c.loop.invariant.0,
-      body_on a.self.from a.self.to s c.loop.p _ (a.n - c.loop.counter) _ (omega (arith, more)) (omega arith) next
+      body_on g.row.FROM g.row.TO s c.loop.p _ (a.n - c.loop.counter) _ (omega (arith, more)) (omega arith) next
           (sym c.fits.ensures ∙ c.if-not-fits.false)
           ∙ c.loop.invariant.1,
     )
 
 pub returns : goal.returns
-returns c = let a = c.args in
-    body_done a.self.from a.self.to a.self.reads.now c.loop.p (a.n - c.loop.counter) (omega arith) ∙ c.loop.invariant.1
+returns g c = let a = c.args in
+    body_done g.row.FROM g.row.TO a.self.reads.now c.loop.p (a.n - c.loop.counter) (omega arith) ∙ c.loop.invariant.1

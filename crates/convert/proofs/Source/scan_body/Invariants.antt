@@ -6,8 +6,8 @@ use Rattle.convert.proofs.Scan.{in_body}
 use Rattle.convert.proofs.Source.scan_body.Given as goal
 
 abbrev pub invariant-loop : goal.invariant-loop
-invariant-loop l =
+invariant-loop g l =
     let a = l.self in
     let s = a.reads.now in
     let left = l.n - l.counter in
-    (behind (instr_end a.from s) l.p left ≡ behind (instr_end a.from s) l.at l.n) × (in_body a.from a.to s l.p left ≡ in_body a.from a.to s l.at l.n)
+    (behind (instr_end g.row.FROM s) l.p left ≡ behind (instr_end g.row.FROM s) l.at l.n) × (in_body g.row.FROM g.row.TO s l.p left ≡ in_body g.row.FROM g.row.TO s l.at l.n)
