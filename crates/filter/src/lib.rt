@@ -1,6 +1,5 @@
 // The program's reading and writing, for the programs that differ only in what they are run on: each is run on one input, so there is one for
-// each input. The input's array has a byte more than the longest input that report::program takes; the buffer has the length that it takes, and
-// any other is an error of type.
+// each input. The lengths of both arrays are those that report::program_read takes; any other is an error of type.
 #![tactic(auto)]
 
 ghost use Rattle.std.specs.Prelude.{IfSome, OnOk};
@@ -21,6 +20,6 @@ pub fn run<R: Read, W: Write>(reader: &mut R, writer: &mut W) -> io::Result<()>
     let mut buffer = [0u8; BUFFER];
     // Counts of what stands first in the arrays: of one that a result is lent from, no clause says what it holds then.
     let count = read_input::read_full(reader, &mut input)?;
-    let n = report::program(&input[..count], &mut buffer);
+    let n = report::program_read(&input, count, &mut buffer);
     writer.write_all(&buffer[..n])
 }

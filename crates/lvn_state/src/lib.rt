@@ -27,7 +27,7 @@ use record::NameIx;
 const NONE: u16 = 65535;
 
 // env: the number of each of M names; homes: the home of each of N numbers; values: the value of each number; made: K.
-#[derive(Drop)]
+#[derive(Clone, Copy)]
 pub struct LvnState<const M: usize, const N: usize> {
     env: [u16; M],
     homes: [u16; N],

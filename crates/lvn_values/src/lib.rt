@@ -91,7 +91,7 @@ impl Entry {
 // alone. One array of entries was measured and is as quick, but over it holds would stand twice, for the heads and for the constants, or want a
 // closure that picks the part; and the two share one count.
 // No PartialEq: what stands from count on is no part of the table.
-#[derive(Drop)]
+#[derive(Clone, Copy)]
 pub struct Values<const N: usize> {
     heads: [u64; N],
     nums: [u64; N],

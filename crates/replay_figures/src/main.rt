@@ -72,7 +72,9 @@ pub fn numbers<'a>(line: &mut Cursor<'_>, places: &'a mut [u16]) -> &'a [u16]
     ensures { length result.now ≤ length places.old }
 {
     line.each(places, |rest| {
-        rest.skip(b' ').then(|| (rest.number() % 65536) as u16)
+        // `number` reads the space itself.
+        let mut ahead = *rest;
+        ahead.skip(b' ').then(|| (rest.number() % 65536) as u16)
     })
 }
 

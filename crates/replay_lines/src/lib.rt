@@ -4,6 +4,7 @@
 
 ghost use Rattle.std.specs.Prelude.{ℕ, List, ◌+◌, ◌≡◌, ◌==◌, ◌&&◌, ◌≢◌, ◌∷◌, ◌<◌, ◌≤◌, true, length, get_or, IfSome, MatchBool, OnOk};
 ghost use Rattle.std.specs.Io.KnownBytes.{Appends};
+ghost use Rattle.std.specs.List.{list_all};
 ghost use Rattle.replay_lines.specs.Counts.{counts_line};
 ghost use Rattle.replay_lines.specs.Decimal.{decimal, behind_digits};
 ghost use Rattle.replay_lines.specs.Filled.{holds_before_fill};
@@ -27,15 +28,6 @@ pub struct Cursor<'a> {
 }
 
 impl<'a> Cursor<'a> {
-    // Reads a line, with the byte that ends it, which the last may lack.
-    fn line(&mut self) -> Option<Cursor<'a>>
-        ensures { IfSome result (λ line. 0 < length line.rest.now × (length line.rest.now + length self.new.rest.now ≡ length self.old.rest.now)) }
-    {
-        let line = self.rest.split_inclusive(|c| *c == b'\n').next()?;
-        self.rest = &self.rest[line.len()..];
-        Some(Cursor { rest: line })
-    }
-
     // Reads this byte, if it comes next, and returns whether it does; nothing is read where it does not.
     pub fn skip(&mut self, c: u8) -> bool
         ensures { MatchBool result (self.old.rest.now ≡ c ∷ self.new.rest.now)
@@ -115,11 +107,23 @@ pub fn hex_digit(c: u8) -> Option<u8>
     }
 }
 
+// Whether all of these are `fill`. None ends the loop, so that many are looked at at once: a search for one that is another takes six times
+// the instructions.
+fn are_filled<T: Copy + PartialEq>(all: &[T], fill: T) -> bool
+    ensures { result ≡ list_all (λ x. T.eq x fill) all.now }
+{
+    let mut filled = true;
+    for x in all {
+        filled = (*x == fill) && filled;
+    }
+    filled
+}
+
 // Whether these stand first, and beyond them nothing but `fill`.
 pub fn holds_before_fill<T: Copy + PartialEq>(all: &[T], first: &[T], fill: T) -> bool
     ensures { result ≡ holds_before_fill T.eq all.now first.now fill }
 {
-    all.starts_with(first) && all[first.len()..].iter().all(|x| *x == fill)
+    all.starts_with(first) && are_filled(&all[first.len()..], fill)
 }
 
 // Lends the first `count` of `all`, which holds only `fill`, to `answers`; true if that is true and then `all` is `first` followed by `fill`.
@@ -198,7 +202,8 @@ impl fmt::Display for Counts {
     }
 }
 
-// All lines: one agrees where `agrees` reads the whole of it and returns true.
+// All lines: one agrees where `agrees` returns true. It ends where `agrees` has stopped reading, behind the byte that ends a line if that comes
+// next, and there the next one begins; one of which nothing is read differs, and ends the list.
 pub fn replay<F: Fn(&mut Cursor<'_>) -> bool>(text: &[u8], agrees: F) -> Counts
     requires { F.IsAlwaysCallable agrees }
     ensures { result.same + result.other ≤ length text.now }
@@ -206,9 +211,16 @@ pub fn replay<F: Fn(&mut Cursor<'_>) -> bool>(text: &[u8], agrees: F) -> Counts
     let mut list = Cursor { rest: text };
     let mut same = 0;
     let mut other = 0;
-    // A `for` over the text's lines was tried, and does not check where each is lent to `agrees`.
-    while let Some(mut line) = list.line() {
-        if agrees(&mut line) && matches!(line.rest, [] | [b'\n']) {
+    // Where a line ends is seen as it is read: a `for` over the text's lines would end one elsewhere.
+    while !list.rest.is_empty() {
+        let left = list.rest.len();
+        let agreed = agrees(&mut list);
+        list.skip(b'\n');
+        if list.rest.len() >= left {
+            other += 1;
+            break;
+        }
+        if agreed {
             same += 1;
         } else {
             other += 1;

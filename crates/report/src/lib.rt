@@ -40,3 +40,12 @@ pub fn program(input: &[u8], buffer: &mut [u8; BUFFER]) -> usize
         Err(e) => put_refusal(buffer, e.number(), e.value()),
     }
 }
+
+// `program` of what was read: the first `count` bytes of the array, which are all if it has not so many. An array of another length is an error of
+// type: one byte more than the longest input tells whether there is more.
+pub fn program_read(input: &[u8; MOST_INPUT + 1], count: usize, buffer: &mut [u8; BUFFER]) -> usize
+    ensures { (result ≤ length buffer.new) × (take result buffer.new ≡ program_output (take count input.now)) }
+{
+    let read: &[u8] = input;
+    program(&read[..count.min(read.len())], buffer)
+}

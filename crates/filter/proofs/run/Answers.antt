@@ -8,4 +8,4 @@ pub returns : goal.returns
 returns g c =
     let read = c.in_ok-count.ensures in
     wrote_whole _ 8192 _ prints_long _ _ (g.R.Read.remaining c.read_full.new.reader) _ _ c.read_full.new.buf _ c.in_ok-count.count
-    (omega (arith, c.read_full.auto.buf)) read.bound.0 read.bytes read.end c.program-n.ensures.1 c.write_all.ensures.bytes
+    (omega (arith, c.read_full.auto.buf)) read.bound.0 read.bytes read.end c.program_read-n.ensures.1 c.write_all.ensures.bytes
