@@ -1,20 +1,19 @@
 -- Bytes put by a part of the list that is written over: all of them, or as many as there is room for.
 use Prim.Native.Nat.{ℕ, zero, suc, ◌+◌, ◌-◌, ◌≤◌}
-use mathlib.Core.Path.{◌≡◌, refl, sym, ap, ap₂, ◌∙◌}
-use mathlib.Core.List.{List, [], ◌∷◌, ◌++◌, append_assoc}
+use mathlib.Core.Path.{◌≡◌, refl, sym, ap, ◌∙◌, subst}
+use mathlib.Core.List.{List, [], ◌∷◌, ◌++◌}
 use native.Mathlib.Omega.{arith}
 use lib.ListN.{length, set, take, drop, length-set, length-drop}
-use lib.Seq.{length-take-le, paste}
+use lib.Seq.{length-take-le, take-add}
 use borrow.Rule.Slice.PartMut.{put_mid}
-use Rattle.std.specs.List.{copy_within}
-use Rattle.std.proofs.lemmas.List.Edits.{paste_all, take-paste, drop-paste}
-use Rattle.std.proofs.lemmas.List.{take-append-drop}
+use Rattle.std.proofs.lemmas.List.Edits.{paste_all}
 use Rattle.std.proofs.lemmas.Slice.{put_mid-paste}
-use Rattle.write_bytes.specs.Put.{put}
+use Rattle.write_bytes.specs.Put.{put, Wrote}
 use Rattle.write_bytes.proofs.Put.{put_out, put_split}
+use Rattle.write_bytes.proofs.Wrote.{wrote_append}
 
 -- what has no room is not written
-put_room : (l : List ℕ) (i : ℕ) (xs : List ℕ) (k : ℕ) → length l - i ≤ k → put l i xs ≡ put l i (take k xs)
+pub put_room : (l : List ℕ) (i : ℕ) (xs : List ℕ) (k : ℕ) → length l - i ≤ k → put l i xs ≡ put l i (take k xs)
 unfolding put
 put_room l i [] zero h = refl
 put_room l i [] (suc k) h = refl
@@ -36,21 +35,28 @@ module _ (l bs : List ℕ) (at k : ℕ) {xs : List ℕ} where
       ap (λ (n : ℕ). take at l ++ (take k bs ++ drop (at + n) l)) (sym t) ∙
       sym (put_split l at (take k bs) (omega (arith, t, e))) ∙ sym (put_room l at bs k (omega (arith, e)))
 
--- what stood at a place put further up
-pub put_moved :
-    (l : List ℕ) (from to n : ℕ) {m : List ℕ} →
-    from ≤ to →
-    to + n ≤ length l →
-    m ≡ copy_within l from (from + n) to →
-    m ≡ put l to (take n (drop from l))
-put_moved l from to n {m} h k e =
-    let s = drop from l in
-    let d : length s ≡ length l - from = length-drop from l in
-    let t : length (take n s) ≡ n = length-take-le n s (omega arith) in
-    let f : from + n - from ≡ n = omega arith in
-    let w = paste l to s n in
-    e ∙ ap (paste l to s) f ∙ sym (take-append-drop (to + n) w) ∙
-    ap₂ ◌++◌ (take-paste l to s n (omega arith) (omega arith)) (drop-paste l to s n (omega arith) (omega arith)) ∙
-    append_assoc (take to l) (take n s) (drop (to + n) l) ∙
-    ap (λ (j : ℕ). take to l ++ (take n s ++ drop (to + j) l)) (sym t) ∙
-    sym (put_split l to (take n s) (omega (arith, t)))
+-- ---- texts, a part behind the other
+-- the first n of s are written; the next k too
+pub wrote_more :
+    {l m r : List ℕ} {i : ℕ} (n k : ℕ) (s : List ℕ) →
+    n + k ≤ length s →
+    r ≡ put m (i + n) (take k (drop n s)) →
+    Wrote l m i (i + n) (take n s) →
+    Wrote l r i (i + (n + k)) (take (n + k) s)
+wrote_more {l} {m} {r} {i} n k s h e a =
+    let d : length (drop n s) ≡ length s - n = length-drop n s in
+    let t : length (take k (drop n s)) ≡ k = length-take-le k (drop n s) (omega arith) in
+    subst (Wrote l r i (i + (n + k))) (sym (take-add n k s))
+    (wrote_append (take n s) (take k (drop n s)) a (record { out = e; end = omega (arith, t) }))
+
+-- the bytes up to the p-th too
+pub wrote_on :
+    {l m r : List ℕ} {i : ℕ} (n p : ℕ) (s : List ℕ) →
+    n ≤ p →
+    p ≤ length s →
+    r ≡ put m (i + n) (take (p - n) (drop n s)) →
+    Wrote l m i (i + n) (take n s) →
+    Wrote l r i (i + p) (take p s)
+wrote_on {l} {m} {r} {i} n p s h k e a =
+    let q : n + (p - n) ≡ p = omega arith in
+    subst (λ (j : ℕ). Wrote l r i (i + j) (take j s)) q (wrote_more n (p - n) s (omega arith) e a)

@@ -6,3 +6,4 @@ pub mod Digits
 pub mod Made
 pub mod Parts
 pub mod Copies
+pub mod Moved

@@ -5,7 +5,7 @@
 // places would have to know the n of what is yet to come.
 #![tactic(auto)]
 
-ghost use Rattle.std.specs.Prelude.{◌≡◌, ◌+◌, ◌-◌, ◌^◌, ◌<◌, ◌≤◌, length, ltb, take, drop};
+ghost use Rattle.std.specs.Prelude.{◌≡◌, ◌+◌, ◌-◌, ◌*◌, ◌^◌, ◌<◌, ◌≤◌, length, ltb, take, drop};
 ghost use Rattle.record.specs.Write.{be, name_bytes};
 ghost use Rattle.numbering.specs.Made.{digits, made_text};
 ghost use Rattle.read_fields.specs.Places.{places};
@@ -83,12 +83,59 @@ pub fn word_fits(w: usize, x: u64) -> bool
     w == 8 || x < 1 << 32
 }
 
+// The next N bytes of a text that has room, if so many are left, of which n are written; how many are then. By an array, so that they are a load and
+// a store: a copy whose length is not known is a call of memmove, which the library for C would need from outside.
+#[inline(always)]
+fn put_next<const N: usize>(out: &mut [u8], at: usize, text: &[u8], n: usize) -> usize
+    requires { (n ≤ length text.now) × (at + length text.now ≤ length out.old) }
+    ensures { (out.new ≡ put out.old (at + n) (take (result - n) (drop n text.now))) × ((n ≤ result) × ((result ≤ length text.now) ×
+        ((N ≤ length text.now - n → result ≡ n + N) × (length text.now - n < 2 * N → length text.now - result < N)))) }
+{
+    if text.len() - n < N {
+        return n;
+    }
+    let mut part = [0u8; N];
+    part.copy_from_slice(&text[n..n + N]);
+    out[at + n..at + n + N].copy_from_slice(&part);
+    n + N
+}
+
+// A text that has room.
+#[inline(always)]
+fn put_whole(out: &mut [u8], at: usize, text: &[u8])
+    requires { at + length text.now ≤ length out.old }
+    ensures { out.new ≡ put out.old at text.now }
+{
+    let mut n = 0;
+    while text.len() - n >= 8 {
+        n = put_next::<8>(out, at, text, n);
+    }
+    let four = put_next::<4>(out, at, text, n);
+    let two = put_next::<2>(out, at, text, four);
+    put_next::<1>(out, at, text, two);
+}
+
+// A text as far as it has room.
+fn put_as_room(out: &mut [u8], at: usize, text: &[u8])
+    ensures { out.new ≡ put out.old at text.now }
+{
+    if at >= out.len() {
+        return;
+    }
+    let room = out.len() - at;
+    if text.len() <= room {
+        put_whole(out, at, text);
+    } else {
+        put_whole(out, at, &text[..room]);
+    }
+}
+
 // A text; the place behind it.
 pub fn put_text(out: &mut [u8], at: usize, text: &[u8]) -> usize
     requires { at + length text.now < places }
     ensures { Wrote out.old out.new at result text.now × (result ≡ at + length text.now) }
 {
-    put_bytes(out, at, text);
+    put_as_room(out, at, text);
     at + text.len()
 }
 
@@ -157,5 +204,7 @@ pub fn move_up(out: &mut [u8], from: usize, to: usize, n: usize)
     requires { (from ≤ to) × (to + n ≤ length out.old) }
     ensures { out.new ≡ put out.old to (take n (drop from out.old)) }
 {
-    out.copy_within(from..from + n, to);
+    for left in (0..n).rev() {
+        out[to + left] = out[from + left];
+    }
 }
