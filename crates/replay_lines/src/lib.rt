@@ -21,7 +21,7 @@ pub const RECORD: usize = 4096;
 
 pub const REWRITING: usize = 8192;
 
-// What is left to read of a list, or of a line.
+// What is left to read of a list.
 #[derive(Clone, Copy, PartialEq, Eq, Debug)]
 pub struct Cursor<'a> {
     rest: &'a [u8],
@@ -107,8 +107,7 @@ pub fn hex_digit(c: u8) -> Option<u8>
     }
 }
 
-// Whether all of these are `fill`. None ends the loop, so that many are looked at at once: a search for one that is another takes six times
-// the instructions.
+// Whether all of these are `fill`. None ends the loop, so that many are looked at at once, which a search for one that is another does not do.
 fn are_filled<T: Copy + PartialEq>(all: &[T], fill: T) -> bool
     ensures { result ≡ list_all (λ x. T.eq x fill) all.now }
 {

@@ -50,12 +50,15 @@ impl Answer<'_> {
     }
 
     // Whether the engine, with so many bytes lent for the events and for the store, answers so and puts these events and this store there, no
-    // other changed.
+    // other changed; three more of each are looked at.
     fn comes(self, case: Case<'_>, room: usize, more: usize) -> bool {
+        if room > EVENTS - 3 || more > STORE - 3 {
+            return false;
+        }
         let mut out = [FILL; EVENTS];
         let mut last = [FILL; STORE];
-        replay_lines::leaves(&mut out, room, self.events, FILL, |events| {
-            replay_lines::leaves(&mut last, more, self.left, FILL, |left| {
+        replay_lines::leaves(&mut out[..room + 3], room, self.events, FILL, |events| {
+            replay_lines::leaves(&mut last[..more + 3], more, self.left, FILL, |left| {
                 self.is(engine::run(
                     case.record,
                     case.store,

@@ -1,5 +1,5 @@
-// Writing to a lent slice. `put_bytes` leaves out what would stand past the end, and the writers over it with it, so they ask for no room,
-// and over an empty slice they learn the size. Only `move_up` asks that what it writes lies inside.
+// Writing to a lent slice. `put_bytes` and `put_as_room` leave out what would stand past the end, and the writers over them with them, so they ask
+// for no room, and over an empty slice they learn the size. Of the public ones only `move_up` asks that what it writes lies inside.
 // Each takes out and a place, and those of texts, digits and made names hand back the place behind: a struct of both would be a `&mut` slice lent
 // on and taken back at each part, and say no more. That `at + n < places` is asked by each, since n is another for each; a type of
 // places would have to know the n of what is yet to come.
@@ -84,7 +84,7 @@ pub fn word_fits(w: usize, x: u64) -> bool
 }
 
 // The next N bytes of a text that has room, if so many are left, of which n are written; how many are then. By an array, so that they are a load and
-// a store: a copy whose length is not known is a call of memmove, which the library for C would need from outside.
+// a store: a copy of some length from one slice to another is a call of memmove, which the library for C would need from outside.
 #[inline(always)]
 fn put_next<const N: usize>(out: &mut [u8], at: usize, text: &[u8], n: usize) -> usize
     requires { (n ≤ length text.now) × (at + length text.now ≤ length out.old) }
